@@ -1,0 +1,90 @@
+-- `format::image::high_bit` meets its contract: the loop has found no high bit in the first i sets.
+-- Assumes nothing.
+use Prim.Native.Nat.{ℕ, _≤_, _<_, _-_}
+use native.Mathlib.Omega.{arith}
+use borrow.Author.Count.{below-more, below-none}
+use Rattle.format.specs.Image.{HighBitIn}
+use Rattle.model.specs.Decides.{granted, denied}
+use Rattle.format.proofs.ImageLaws.{has-all, count-is, some-high, none-high}
+use borrow.Author.Needs.{needs}
+use Rattle.format.proofs.image.high_bit.Statement.{statement}
+use Rattle.format.proofs.image.high_bit.Tie as tie
+
+abbrev Inv-loop : tie.InvT-loop
+Inv-loop image all count i₀ i = (i ≤ count) × ((k : ℕ) → k < i → HighBitIn image k → ⊥)
+
+abbrev μ-loop : tie.MeasureT-loop
+μ-loop image all count i₀ i = count - i
+
+byte-requires : tie.Need-byte-requires Inv-loop μ-loop
+byte-requires c κs = search needs
+
+cast-below : tie.Need-cast-below Inv-loop μ-loop
+cast-below c = search needs
+
+below-requires : tie.Need-below-requires Inv-loop μ-loop
+below-requires c κs = search needs
+
+byte-requires-2 : tie.Need-byte-requires-2 Inv-loop μ-loop
+byte-requires-2 c κs = search needs
+
+first-set-requires : tie.Need-first-set-requires Inv-loop μ-loop
+first-set-requires c κs = search needs
+
+loop-holds : tie.Need-loop-holds Inv-loop μ-loop
+loop-holds c = (search needs, below-none _)
+
+set-requires : tie.Need-set-requires Inv-loop μ-loop
+set-requires c κs = search needs
+
+subset-requires : tie.Need-subset-requires Inv-loop μ-loop
+subset-requires c κs = search needs
+
+returns : tie.Need-returns Inv-loop μ-loop
+returns c =
+    let image = c .before .before .before .before .before .before .before .before .before .before .args .image .now in
+    record {
+      set = c .before .before .before .before .loop .i;
+      one-of = omega (arith, count-is image _ _ (c .before .before .before .before .before .first-set .ensures .is) (c .before .before .before .before .before .before .byte2 .ensures));
+      at =
+          some-high image _ _ _ (c .before .before .set .ensures) (has-all image _ _ (c .before .before .before .before .before .before .before .before .byte .ensures) (c .before .before .before .before .before .before .before .before .before .before .pre .stages) (c .before .before .before .before .before .before .before .below .ensures))
+          (denied (c .before .subset .result) _ (c .before .subset .ensures) (c .if1 .taken));
+    }
+
+add-i : tie.Need-add-i Inv-loop μ-loop
+add-i c = search needs
+
+loop-less : tie.Need-loop-less Inv-loop μ-loop
+loop-less c = search needs
+
+loop-again : tie.Need-loop-again Inv-loop μ-loop
+loop-again c =
+    let image = c .before .before .before .before .before .before .before .before .before .before .args .image .now in (
+      omega arith,
+      below-more _ _ (c .before .before .before .before .loop .inv .1)
+          (none-high image _ _ _ (c .before .before .set .ensures) (has-all image _ _ (c .before .before .before .before .before .before .before .before .byte .ensures) (c .before .before .before .before .before .before .before .before .before .before .pre .stages) (c .before .before .before .before .before .before .before .below .ensures))
+          (granted (c .before .subset .result) _ (c .before .subset .ensures) (c .if1 .left))),
+    )
+
+returns-2 : tie.Need-returns-2 Inv-loop μ-loop
+returns-2 c = λ h. c .before .loop .inv .1 (h .set) (omega (arith, count-is _ _ _ (c .before .before .first-set .ensures .is) (c .before .before .before .byte2 .ensures), h .one-of)) (h .at)
+
+pub high-bit-spec : {M : Type 1} → statement M
+high-bit-spec =
+    tie.close
+    (tie.spec
+    Inv-loop
+    μ-loop
+    byte-requires
+    cast-below
+    below-requires
+    byte-requires-2
+    first-set-requires
+    loop-holds
+    set-requires
+    subset-requires
+    returns
+    add-i
+    loop-less
+    loop-again
+    returns-2)

@@ -1,0 +1,133 @@
+-- `format::image::read` meets its contract: at each `return` the tests before it say that no earlier condition holds.
+-- Assumes nothing.
+use mathlib.Core.Path.{_≡_, refl}
+use mathlib.Core.Logic.{inl, inr}
+use native.Mathlib.Omega.{arith}
+use Rattle.model.specs.Decides.{decided, refuted, granted, denied}
+use Rattle.format.proofs.ImageLaws.{count-is}
+use Rattle.format.proofs.RefusalLaws.{passed}
+use borrow.Author.Needs.{needs}
+use Rattle.format.proofs.image.read.Statement.{statement}
+use Rattle.format.proofs.image.read.Tie as tie
+
+begins-requires : tie.Need-begins-requires
+begins-requires c κs = search needs
+
+returns : tie.Need-returns
+returns c = inl (refl, denied (c .before .begins .result) _ (c .before .begins .ensures) (c .if1 .taken))
+
+sizes-fit-requires : tie.Need-sizes-fit-requires
+sizes-fit-requires c κs = search needs
+
+returns-2 : tie.Need-returns-2
+returns-2 c =
+    inr (
+      passed (granted (c .before .before .before .begins .result) _ (c .before .before .before .begins .ensures) (c .before .before .if1 .left)),
+      inl (refl, denied (c .before .sizes-fit .result) _ (c .before .sizes-fit .ensures) (c .if2 .taken)),
+    )
+
+length-fits-requires : tie.Need-length-fits-requires
+length-fits-requires c κs = search needs
+
+returns-3 : tie.Need-returns-3
+returns-3 c =
+    inr (
+      passed (granted (c .before .before .before .before .before .begins .result) _ (c .before .before .before .before .before .begins .ensures) (c .before .before .before .before .if1 .left)),
+      inr (
+        passed (granted (c .before .before .before .sizes-fit .result) _ (c .before .before .before .sizes-fit .ensures) (c .before .before .if2 .left)),
+        inl (refl, denied (c .before .length-fits .result) _ (c .before .length-fits .ensures) (c .if3 .taken)),
+      ),
+    )
+
+high-bit-requires : tie.Need-high-bit-requires
+high-bit-requires c κs = granted (c .before .before .before .sizes-fit .result) _ (c .before .before .before .sizes-fit .ensures) (c .before .before .if2 .left)
+
+returns-4 : tie.Need-returns-4
+returns-4 c =
+    inr (
+      passed (granted (c .before .before .before .before .before .before .before .begins .result) _ (c .before .before .before .before .before .before .before .begins .ensures) (c .before .before .before .before .before .before .if1 .left)),
+      inr (
+        passed (granted (c .before .before .before .before .before .sizes-fit .result) _ (c .before .before .before .before .before .sizes-fit .ensures) (c .before .before .before .before .if2 .left)),
+        inr (
+          passed (granted (c .before .before .before .length-fits .result) _ (c .before .before .before .length-fits .ensures) (c .before .before .if3 .left)),
+          inl (refl, decided _ (c .before .high-bit .ensures) (c .if4 .taken)),
+        ),
+      ),
+    )
+
+dead-stop-requires : tie.Need-dead-stop-requires
+dead-stop-requires c κs = search needs
+
+returns-5 : tie.Need-returns-5
+returns-5 c =
+    inr (
+      passed (granted (c .before .before .before .before .before .before .before .before .before .begins .result) _ (c .before .before .before .before .before .before .before .before .before .begins .ensures) (c .before .before .before .before .before .before .before .before .if1 .left)),
+      inr (
+        passed (granted (c .before .before .before .before .before .before .before .sizes-fit .result) _ (c .before .before .before .before .before .before .before .sizes-fit .ensures) (c .before .before .before .before .before .before .if2 .left)),
+        inr (
+          passed (granted (c .before .before .before .before .before .length-fits .result) _ (c .before .before .before .before .before .length-fits .ensures) (c .before .before .before .before .if3 .left)),
+          inr (
+            refuted _ (c .before .before .before .high-bit .ensures) (c .before .before .if4 .left),
+            inl (refl, decided _ (c .before .dead-stop .ensures) (c .if5 .taken)),
+          ),
+        ),
+      ),
+    )
+
+byte-requires : tie.Need-byte-requires
+byte-requires c κs = search needs
+
+byte-requires-2 : tie.Need-byte-requires-2
+byte-requires-2 c κs = search needs
+
+cast-t13 : tie.Need-cast-t13
+cast-t13 c = search needs
+
+cast-t14 : tie.Need-cast-t14
+cast-t14 c = search needs
+
+first-set-requires : tie.Need-first-set-requires
+first-set-requires c κs = search needs
+
+returns-6 : tie.Need-returns-6
+returns-6 c =
+    record {
+      clear = (
+        passed (granted (c .before .before .before .before .before .before .before .before .before .before .before .before .begins .result) _ (c .before .before .before .before .before .before .before .before .before .before .before .before .begins .ensures) (c .before .before .before .before .before .before .before .before .before .before .before .if1 .left)),
+        (
+          passed (granted (c .before .before .before .before .before .before .before .before .before .before .sizes-fit .result) _ (c .before .before .before .before .before .before .before .before .before .before .sizes-fit .ensures) (c .before .before .before .before .before .before .before .before .before .if2 .left)),
+          (
+            passed (granted (c .before .before .before .before .before .before .before .before .length-fits .result) _ (c .before .before .before .before .before .before .before .before .length-fits .ensures) (c .before .before .before .before .before .before .before .if3 .left)),
+            (
+              refuted _ (c .before .before .before .before .before .before .high-bit .ensures) (c .before .before .before .before .before .if4 .left),
+              (
+                refuted _ (c .before .before .before .before .dead-stop .ensures) (c .before .before .before .if5 .left),
+                tt,
+              ),
+            ),
+          ),
+        ),
+      );
+      is = λ i. record { stages = c .before .byte2 .ensures i; predicates = c .before .before .byte .ensures i; sets = count-is _ _ _ (c .first-set .ensures .is) (c .before .before .byte .ensures) i };
+    }
+
+pub read-spec : {M : Type 1} → statement M
+read-spec =
+    tie.close
+    (tie.spec
+    begins-requires
+    returns
+    sizes-fit-requires
+    returns-2
+    length-fits-requires
+    returns-3
+    high-bit-requires
+    returns-4
+    dead-stop-requires
+    returns-5
+    byte-requires
+    byte-requires-2
+    cast-t13
+    cast-t14
+    first-set-requires
+    returns-6)

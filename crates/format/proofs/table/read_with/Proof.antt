@@ -1,0 +1,144 @@
+-- `format::table::read_with` meets its contract: at each `return` the tests before it say that no earlier condition holds.
+-- Assumes nothing.
+use mathlib.Core.Path.{_≡_, refl}
+use mathlib.Core.Logic.{inl, inr}
+use Rattle.model.specs.Decides.{decided, refuted, granted, denied}
+use Rattle.format.specs.Image.{imageConditions}
+use Rattle.format.specs.Table.{tableConditions}
+use Rattle.format.specs.declared.Refusal.the-variants as R
+use Rattle.format.proofs.RefusalLaws.{passed, given-later, clear-both}
+use Rattle.format.proofs.ReadingLaws.{all-small}
+use borrow.Author.Needs.{needs}
+use Rattle.format.proofs.table.read_with.Statement.{statement}
+use Rattle.format.proofs.table.read_with.Tie as tie
+
+begins-requires : tie.Need-begins-requires
+begins-requires c κs = search needs
+
+returns : tie.Need-returns
+returns c =
+    let image = c .before .before .before .before .args .image .now in
+    let table = c .before .before .before .before .args .table .now in
+    given-later (imageConditions image) (tableConditions image table) R.TableStart (c .before .before .before .before .pre .clear)
+    (inl (refl, denied (c .before .begins .result) _ (c .before .begins .ensures) (c .if1 .taken)))
+
+entries-fit-requires : tie.Need-entries-fit-requires
+entries-fit-requires c κs = search needs
+
+returns-2 : tie.Need-returns-2
+returns-2 c =
+    let image = c .before .before .before .before .before .before .args .image .now in
+    let table = c .before .before .before .before .before .before .args .table .now in
+    given-later (imageConditions image) (tableConditions image table) R.TableLength (c .before .before .before .before .before .before .pre .clear)
+    (inr (
+      passed (granted (c .before .before .before .begins .result) _ (c .before .before .before .begins .ensures) (c .before .before .if1 .left)),
+      inl (refl, denied (c .before .entries-fit .result) _ (c .before .entries-fit .ensures) (c .if2 .taken)),
+    ))
+
+bad-record-requires : tie.Need-bad-record-requires
+bad-record-requires c κs = search needs
+
+returns-3 : tie.Need-returns-3
+returns-3 c =
+    let image = c .before .before .before .before .before .before .before .before .args .image .now in
+    let table = c .before .before .before .before .before .before .before .before .args .table .now in
+    given-later (imageConditions image) (tableConditions image table) R.BadRecord (c .before .before .before .before .before .before .before .before .pre .clear)
+    (inr (
+      passed (granted (c .before .before .before .before .before .begins .result) _ (c .before .before .before .before .before .begins .ensures) (c .before .before .before .before .if1 .left)),
+      inr (
+        passed (granted (c .before .before .before .entries-fit .result) _ (c .before .before .before .entries-fit .ensures) (c .before .before .if2 .left)),
+        inl (refl, decided _ (c .before .bad-record .ensures) (c .if3 .taken)),
+      ),
+    ))
+
+operand-twice-requires : tie.Need-operand-twice-requires
+operand-twice-requires c κs =
+    all-small (c .before .before .before .before .before .before .before .before .args .image .now) (c .before .before .before .before .before .before .before .before .args .table .now) (granted (c .before .before .before .entries-fit .result) _ (c .before .before .before .entries-fit .ensures) (c .before .before .if2 .left))
+    (refuted _ (c .before .bad-record .ensures) (c .if3 .left))
+
+returns-4 : tie.Need-returns-4
+returns-4 c =
+    let image = c .before .before .before .before .before .before .before .before .before .before .args .image .now in
+    let table = c .before .before .before .before .before .before .before .before .before .before .args .table .now in
+    given-later (imageConditions image) (tableConditions image table) R.OperandTwice (c .before .before .before .before .before .before .before .before .before .before .pre .clear)
+    (inr (
+      passed (granted (c .before .before .before .before .before .before .before .begins .result) _ (c .before .before .before .before .before .before .before .begins .ensures) (c .before .before .before .before .before .before .if1 .left)),
+      inr (
+        passed (granted (c .before .before .before .before .before .entries-fit .result) _ (c .before .before .before .before .before .entries-fit .ensures) (c .before .before .before .before .if2 .left)),
+        inr (
+          refuted _ (c .before .before .before .bad-record .ensures) (c .before .before .if3 .left),
+          inl (refl, decided _ (c .before .operand-twice .ensures) (c .if4 .taken)),
+        ),
+      ),
+    ))
+
+nested-too-deep-requires : tie.Need-nested-too-deep-requires
+nested-too-deep-requires c κs = search needs
+
+returns-5 : tie.Need-returns-5
+returns-5 c =
+    let image = c .before .before .before .before .before .before .before .before .before .before .before .before .args .image .now in
+    let table = c .before .before .before .before .before .before .before .before .before .before .before .before .args .table .now in
+    given-later (imageConditions image) (tableConditions image table) R.NestedTooDeep (c .before .before .before .before .before .before .before .before .before .before .before .before .pre .clear)
+    (inr (
+      passed (granted (c .before .before .before .before .before .before .before .before .before .begins .result) _ (c .before .before .before .before .before .before .before .before .before .begins .ensures) (c .before .before .before .before .before .before .before .before .if1 .left)),
+      inr (
+        passed (granted (c .before .before .before .before .before .before .before .entries-fit .result) _ (c .before .before .before .before .before .before .before .entries-fit .ensures) (c .before .before .before .before .before .before .if2 .left)),
+        inr (
+          refuted _ (c .before .before .before .before .before .bad-record .ensures) (c .before .before .before .before .if3 .left),
+          inr (
+            refuted _ (c .before .before .before .operand-twice .ensures) (c .before .before .if4 .left),
+            inl (refl, decided _ (c .before .nested-too-deep .ensures) (c .if5 .taken)),
+          ),
+        ),
+      ),
+    ))
+
+byte-requires : tie.Need-byte-requires
+byte-requires c κs = search needs
+
+cast-t15 : tie.Need-cast-t15
+cast-t15 c = search needs
+
+returns-6 : tie.Need-returns-6
+returns-6 c =
+    let image = c .before .before .before .before .before .before .before .before .before .before .before .before .before .args .image .now in
+    let table = c .before .before .before .before .before .before .before .before .before .before .before .before .before .args .table .now in
+    record {
+      clear =
+          clear-both (imageConditions image) (tableConditions image table) (c .before .before .before .before .before .before .before .before .before .before .before .before .before .pre .clear) (
+            passed (granted (c .before .before .before .before .before .before .before .before .before .before .begins .result) _ (c .before .before .before .before .before .before .before .before .before .before .begins .ensures) (c .before .before .before .before .before .before .before .before .before .if1 .left)),
+            (
+              passed (granted (c .before .before .before .before .before .before .before .before .entries-fit .result) _ (c .before .before .before .before .before .before .before .before .entries-fit .ensures) (c .before .before .before .before .before .before .before .if2 .left)),
+              (
+                refuted _ (c .before .before .before .before .before .before .bad-record .ensures) (c .before .before .before .before .before .if3 .left),
+                (
+                  refuted _ (c .before .before .before .before .operand-twice .ensures) (c .before .before .before .if4 .left),
+                  (
+                    refuted _ (c .before .before .nested-too-deep .ensures) (c .before .if5 .left),
+                    tt,
+                  ),
+                ),
+              ),
+            ),
+          );
+      is = λ i. record { image = c .before .before .before .before .before .before .before .before .before .before .before .before .before .pre .is i; entries = c .byte .ensures i };
+    }
+
+pub read-with-spec : {M : Type 1} → statement M
+read-with-spec =
+    tie.close
+    (tie.spec
+    begins-requires
+    returns
+    entries-fit-requires
+    returns-2
+    bad-record-requires
+    returns-3
+    operand-twice-requires
+    returns-4
+    nested-too-deep-requires
+    returns-5
+    byte-requires
+    cast-t15
+    returns-6)

@@ -1,0 +1,18 @@
+-- `sets::power` meets its contract: a shift by less than the width loses nothing.
+use mathlib.Core.Path.{_∙_}
+use native.Mathlib.Nat.{one-mul}
+use native.Mathlib.Omega.{arith}
+use borrow.Author.Needs.{needs}
+use lib.Pow.{shl-exact}
+use lib.Dec.{lit<}
+use Rattle.sets.proofs.power.Statement.{statement}
+use Rattle.sets.proofs.power.Tie as tie
+
+shl-result : tie.Need-shl-result
+shl-result c = search needs
+
+returns : tie.Need-returns
+returns c = shl-exact 1 (c .args .k) 64 (lit< tt) (omega arith) ∙ one-mul _
+
+pub power-spec : {M : Type 1} → statement M
+power-spec = tie.close (tie.spec shl-result returns)
