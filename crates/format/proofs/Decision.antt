@@ -9,14 +9,16 @@ use mathlib.Core.Logic.{_⊎_, inl, inr, ⊎-elim, _↔_}
 use lib.ListN.{length, getD}
 use lib.Dec.{T, leb, eqb}
 use borrow.Author.Tests.{leb-true, leb-false, eqb-true, eqb-false}
-use Rattle.model.specs.Formula.{Formula, truth, falsity, is, isNot, and, or, AX, EX, AF, EG, AR, EU, Term, stage, variable, Atom, one, two, Names, FreeInAtom, Under, Free, nesting}
+use Rattle.model.specs.Formula.{Formula, truth, falsity, is, isNot, and, or, AX, EX, AF, EG, AR}
+use Rattle.model.specs.Formula.{EU, Term, stage, variable, Atom, one, two, Names, FreeInAtom, Under, Free, nesting}
 use Rattle.sets.specs.Member.{Has, Empty}
 use Rattle.sets.proofs.LawsMember.{side?, empty-zero, within-lt, has-below, has-lt}
 use Rattle.format.proofs.ImageLaws.{outside}
 use Rattle.format.proofs.RefusalLaws.{number-injective, number-some}
 use Rattle.format.specs.Bytes.{Begins, byteAt, wordAt}
 use Rattle.format.specs.Refusal.{number, Condition, Given, Clear}
-use Rattle.format.specs.Image.{stagesOf, predicatesOf, arityOf, setsIn, setOf, lengthOf, SizesFit, ArityFits, AritiesFit, LengthFits, HighBitIn, HighBit, DeadStop, imageConditions}
+use Rattle.format.specs.Image.{stagesOf, predicatesOf, arityOf, setsIn, setOf, lengthOf, SizesFit}
+use Rattle.format.specs.Image.{ArityFits, AritiesFit, LengthFits, HighBitIn, HighBit, DeadStop, imageConditions}
 use Rattle.format.specs.Table.{entriesOf, recordAt, kindOf, sortOf, IsTerm, a-stage, a-variable, SecondTerm, unused, used}
 use Rattle.format.specs.Table.{ConstantRule, AtomRule, JunctionRule, UnaryRule, BinaryRule, RuledAs, Ruled, operands, treeOf}
 use Rattle.format.specs.Table.{EntriesFit, BadRecord, Twice, OperandTwice, NestedTooDeep, tableConditions}
@@ -134,7 +136,11 @@ high-bit-in? image i =
       high = ⊎-elim (λ h. absurd (found .1 .1 (has-below (stagesOf image) (found .0) .1 h))) (λ h. h) (side? (found .0) (stagesOf image));
       in-set = found .1 .0;
     })
-    (λ h. ⊎-elim (λ low. absurd (omega (arith, has-lt (setOf image i) (stagesOf image) (h .stage) low (h .in-set), h .high))) (λ up. up) (side? (setOf image i) (2 ^ stagesOf image)))
+    (λ h.
+    ⊎-elim
+    (λ low. absurd (omega (arith, has-lt (setOf image i) (stagesOf image) (h .stage) low (h .in-set), h .high)))
+    (λ up. up)
+    (side? (setOf image i) (2 ^ stagesOf image)))
     (le? (2 ^ stagesOf image) (setOf image i))
 
 abbrev pub high-bit? : (image : List ℕ) → Dec (HighBit image)

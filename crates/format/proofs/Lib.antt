@@ -10,3 +10,4 @@ pub mod Example
 pub mod TreeLaws
 pub mod VariableLaws
 pub mod RuledLaws
+pub mod Promise

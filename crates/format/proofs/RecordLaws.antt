@@ -69,5 +69,6 @@ by-row row image e r ok kind found kind-is found-is is d =
     subst⁻¹ (λ (s : Sort). Decides ok (RuledAs s image e r)) same d
 
 -- What is decided of an entry's record as the code read it is decided of the entry.
-pub ruled-at : (image table : List ℕ) (e : ℕ) (r : Record) (ok : Bool) → r ≡ recordAt table e → Decides ok (Ruled image e r) → Decides ok (Ruled image e (recordAt table e))
+pub ruled-at : (image table : List ℕ) (e : ℕ) (r : Record) (ok : Bool) → r ≡ recordAt table e → Decides ok (Ruled image e r)
+    → Decides ok (Ruled image e (recordAt table e))
 ruled-at image table e r ok r-is d = subst (λ (x : Record). Decides ok (Ruled image e x)) r-is d

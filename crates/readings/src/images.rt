@@ -12,7 +12,7 @@ fn tell(image: &[u8], name: &[u8]) {
     line(number, name);
 }
 
-pub fn starts() {
+pub(crate) fn starts() {
     let whole = example_image();
     tell(&whole, b"the example's image");
     tell(front(&whole, 0), b"image of no bytes");
@@ -37,7 +37,7 @@ pub fn starts() {
     tell(front(&i, 7), b"17 predicates, image of 7 bytes");
 }
 
-pub fn lengths() {
+pub(crate) fn lengths() {
     let whole = example_image();
     tell(front(&whole, 39), b"image of 39 bytes");
     tell(front(&whole, 7), b"image of 7 bytes, arity byte missing");
@@ -94,7 +94,7 @@ pub fn lengths() {
     tell(&i, b"arity 2 with one set");
 }
 
-pub fn sets() {
+pub(crate) fn sets() {
     let mut i = example_image();
     i[39] = 8;
     tell(&i, b"bit 3 in a predicate");
@@ -112,7 +112,7 @@ pub fn sets() {
 }
 
 // 64 stages, each its own successor and more, and 16 predicates of arity 1.
-pub fn largest() {
+pub(crate) fn largest() {
     let mut i = [255u8; 663];
     i[0] = b'Z';
     i[1] = b'S';

@@ -14,7 +14,7 @@ fn tell(goal: u64, start: u64, name: &[u8]) {
     line(number, name);
 }
 
-pub fn goals() {
+pub(crate) fn goals() {
     tell(2, 0, b"goal 2, start 0");
     tell(1, 2, b"goal 1, start 2");
     tell(0, 0, b"goal 0: variable 1 is free");

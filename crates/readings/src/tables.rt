@@ -16,7 +16,7 @@ fn tell(table: &[u8], name: &[u8]) {
     line(number, name);
 }
 
-pub fn starts() {
+pub(crate) fn starts() {
     let whole = example_table();
     tell(&whole, b"the example's table");
     tell(front(&whole, 5), b"table of 5 bytes");
@@ -36,7 +36,7 @@ pub fn starts() {
     tell(front(&whole, 35), b"table of 35 bytes");
 }
 
-pub fn records() {
+pub(crate) fn records() {
     let mut t = example_table();
     t[6] = 12;
     tell(&t, b"kind 12");
@@ -65,7 +65,7 @@ pub fn records() {
 }
 
 // Entry 2 as "0 and 1", and AX over AX upwards from entry 1.
-pub fn trees() {
+pub(crate) fn trees() {
     let mut t = example_table();
     t[18] = 4;
     t[21] = 0;
@@ -146,7 +146,7 @@ fn nested() -> [u8; 48]
 }
 
 // 64 entries, each "true".
-pub fn largest() {
+pub(crate) fn largest() {
     let mut t = [0u8; 390];
     t[0] = b'Z';
     t[1] = b'S';

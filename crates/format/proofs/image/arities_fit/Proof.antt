@@ -39,10 +39,18 @@ byte-requires-2 : tie.Need-byte-requires-2 Inv-loop μ-loop
 byte-requires-2 c κs = search needs
 
 returns-2 : tie.Need-returns-2 Inv-loop μ-loop
-returns-2 c = λ fits. omega (arith, arity-from _ _ (fits (c .before .before .before .before .loop .q) (omega (arith, c .before .before .before .before .before .byte .ensures))), c .before .byte2 .ensures)
+returns-2 c =
+    let turn = c .before .before .before .before .loop in
+    let byte = c .before .before .before .before .before .byte in
+    let byte2 = c .before .byte2 in
+    λ fits. omega (arith, arity-from _ _ (fits (turn .q) (omega (arith, byte .ensures))), byte2 .ensures)
 
 returns-3 : tie.Need-returns-3 Inv-loop μ-loop
-returns-3 c = λ fits. omega (arith, arity-to _ _ (fits (c .before .before .before .before .before .loop .q) (omega (arith, c .before .before .before .before .before .before .byte .ensures))), c .before .before .byte2 .ensures)
+returns-3 c =
+    let turn = c .before .before .before .before .before .loop in
+    let byte = c .before .before .before .before .before .before .byte in
+    let byte2 = c .before .before .byte2 in
+    λ fits. omega (arith, arity-to _ _ (fits (turn .q) (omega (arith, byte .ensures))), byte2 .ensures)
 
 add-q : tie.Need-add-q Inv-loop μ-loop
 add-q c = search needs
@@ -51,10 +59,12 @@ loop-less : tie.Need-loop-less Inv-loop μ-loop
 loop-less c = search needs
 
 loop-again : tie.Need-loop-again Inv-loop μ-loop
-loop-again c = (
-  omega arith,
-  below-more _ _ (c .before .before .before .before .before .loop .inv .1) (record { there = omega arith; arity = one-or-two _ (omega (arith, c .before .before .byte2 .ensures)) (omega (arith, c .before .before .byte2 .ensures)) }),
-)
+loop-again c =
+    let turn = c .before .before .before .before .before .loop in
+    let byte2 = c .before .before .byte2 in (
+      omega arith,
+      below-more _ _ (turn .inv .1) (record { there = omega arith; arity = one-or-two _ (omega (arith, byte2 .ensures)) (omega (arith, byte2 .ensures)) }),
+    )
 
 returns-4 : tie.Need-returns-4 Inv-loop μ-loop
 returns-4 c = λ q h. c .before .loop .inv .1 q (omega (arith, c .before .before .byte .ensures))

@@ -33,7 +33,12 @@ is-empty-requires : tie.Need-is-empty-requires Inv-loop μ-loop
 is-empty-requires c κs = search needs
 
 returns : tie.Need-returns Inv-loop μ-loop
-returns c = record { stage = c .before .before .before .before .loop .s; below = omega (arith, c .before .before .before .before .before .byte .ensures); none = subst Empty (c .before .before .set .ensures) (decided _ (c .before .is-empty .ensures) (c .if1 .taken)) }
+returns c =
+    let turn = c .before .before .before .before .loop in
+    let byte = c .before .before .before .before .before .byte in
+    let set = c .before .before .set in
+    let is-empty = c .before .is-empty in
+    record { stage = turn .s; below = omega (arith, byte .ensures); none = subst Empty (set .ensures) (decided _ (is-empty .ensures) (c .if1 .taken)) }
 
 add-s : tie.Need-add-s Inv-loop μ-loop
 add-s c = search needs
@@ -42,7 +47,11 @@ loop-less : tie.Need-loop-less Inv-loop μ-loop
 loop-less c = search needs
 
 loop-again : tie.Need-loop-again Inv-loop μ-loop
-loop-again c = (omega arith, below-more _ _ (c .before .before .before .before .loop .inv .1) (subst (λ (s : ℕ). Empty s → ⊥) (c .before .before .set .ensures) (refuted _ (c .before .is-empty .ensures) (c .if1 .left))))
+loop-again c =
+    let turn = c .before .before .before .before .loop in
+    let set = c .before .before .set in
+    let is-empty = c .before .is-empty in
+    (omega arith, below-more _ _ (turn .inv .1) (subst (λ (s : ℕ). Empty s → ⊥) (set .ensures) (refuted _ (is-empty .ensures) (c .if1 .left))))
 
 returns-2 : tie.Need-returns-2 Inv-loop μ-loop
 returns-2 c = λ stop. c .before .loop .inv .1 (stop .stage) (omega (arith, c .before .before .byte .ensures, stop .below)) (stop .none)

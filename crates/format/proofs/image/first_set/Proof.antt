@@ -37,7 +37,10 @@ sets-for-requires : tie.Need-sets-for-requires Inv-loop μ-loop
 sets-for-requires c κs = search needs
 
 add-first : tie.Need-add-first Inv-loop μ-loop
-add-first c = omega (arith, sets-for-le (c .before .before .before .before .byte .result) (c .before .byte2 .result) (omega (arith, c .before .before .before .before .byte .ok)), c .sets-for .ensures)
+add-first c =
+    let byte = c .before .before .before .before .byte in
+    let byte2 = c .before .byte2 in
+    omega (arith, sets-for-le (byte .result) (byte2 .result) (omega (arith, byte .ok)), c .sets-for .ensures)
 
 add-i : tie.Need-add-i Inv-loop μ-loop
 add-i c = search needs
@@ -46,11 +49,14 @@ loop-less : tie.Need-loop-less Inv-loop μ-loop
 loop-less c = search needs
 
 loop-again : tie.Need-loop-again Inv-loop μ-loop
-loop-again c = (
-  omega arith,
-  first-more _ _ (c .before .before .before .before .byte .ensures) (c .before .before .before .loop .inv .1) (cc),
-  omega (arith, sets-for-le (c .before .before .before .before .byte .result) (c .before .byte2 .result) (omega (arith, c .before .before .before .before .byte .ok)), c .sets-for .ensures),
-)
+loop-again c =
+    let byte = c .before .before .before .before .byte in
+    let turn = c .before .before .before .loop in
+    let byte2 = c .before .byte2 in (
+      omega arith,
+      first-more _ _ (byte .ensures) (turn .inv .1) (cc),
+      omega (arith, sets-for-le (byte .result) (byte2 .result) (omega (arith, byte .ok)), c .sets-for .ensures),
+    )
 
 returns : tie.Need-returns Inv-loop μ-loop
 returns c = record { is = c .before .loop .inv .1 ∙ ap (firstSet _) (omega arith); small = omega arith }

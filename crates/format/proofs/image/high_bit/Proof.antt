@@ -42,13 +42,22 @@ subset-requires c κs = search needs
 
 returns : tie.Need-returns Inv-loop μ-loop
 returns c =
-    let image = c .before .before .before .before .before .before .before .before .before .before .args .image .now in
+    let args = c .before .before .before .before .before .before .before .before .before .before .args in
+    let turn = c .before .before .before .before .loop in
+    let first-set = c .before .before .before .before .before .first-set in
+    let byte2 = c .before .before .before .before .before .before .byte2 in
+    let set′ = c .before .before .set in
+    let byte = c .before .before .before .before .before .before .before .before .byte in
+    let pre = c .before .before .before .before .before .before .before .before .before .before .pre in
+    let below = c .before .before .before .before .before .before .before .below in
+    let subset = c .before .subset in
+    let image = args .image .now in
     record {
-      set = c .before .before .before .before .loop .i;
-      one-of = omega (arith, count-is image _ _ (c .before .before .before .before .before .first-set .ensures .is) (c .before .before .before .before .before .before .byte2 .ensures));
+      set = turn .i;
+      one-of = omega (arith, count-is image _ _ (first-set .ensures .is) (byte2 .ensures));
       at =
-          some-high image _ _ _ (c .before .before .set .ensures) (has-all image _ _ (c .before .before .before .before .before .before .before .before .byte .ensures) (c .before .before .before .before .before .before .before .before .before .before .pre .stages) (c .before .before .before .before .before .before .before .below .ensures))
-          (denied (c .before .subset .result) _ (c .before .subset .ensures) (c .if1 .taken));
+          some-high image _ _ _ (set′ .ensures) (has-all image _ _ (byte .ensures) (pre .stages) (below .ensures))
+          (denied (subset .result) _ (subset .ensures) (c .if1 .taken));
     }
 
 add-i : tie.Need-add-i Inv-loop μ-loop
@@ -59,15 +68,26 @@ loop-less c = search needs
 
 loop-again : tie.Need-loop-again Inv-loop μ-loop
 loop-again c =
-    let image = c .before .before .before .before .before .before .before .before .before .before .args .image .now in (
+    let args = c .before .before .before .before .before .before .before .before .before .before .args in
+    let turn = c .before .before .before .before .loop in
+    let set = c .before .before .set in
+    let byte = c .before .before .before .before .before .before .before .before .byte in
+    let pre = c .before .before .before .before .before .before .before .before .before .before .pre in
+    let below = c .before .before .before .before .before .before .before .below in
+    let subset = c .before .subset in
+    let image = args .image .now in (
       omega arith,
-      below-more _ _ (c .before .before .before .before .loop .inv .1)
-          (none-high image _ _ _ (c .before .before .set .ensures) (has-all image _ _ (c .before .before .before .before .before .before .before .before .byte .ensures) (c .before .before .before .before .before .before .before .before .before .before .pre .stages) (c .before .before .before .before .before .before .before .below .ensures))
-          (granted (c .before .subset .result) _ (c .before .subset .ensures) (c .if1 .left))),
+      below-more _ _ (turn .inv .1)
+          (none-high image _ _ _ (set .ensures) (has-all image _ _ (byte .ensures) (pre .stages) (below .ensures))
+          (granted (subset .result) _ (subset .ensures) (c .if1 .left))),
     )
 
 returns-2 : tie.Need-returns-2 Inv-loop μ-loop
-returns-2 c = λ h. c .before .loop .inv .1 (h .set) (omega (arith, count-is _ _ _ (c .before .before .first-set .ensures .is) (c .before .before .before .byte2 .ensures), h .one-of)) (h .at)
+returns-2 c =
+    let turn = c .before .loop in
+    let first-set = c .before .before .first-set in
+    let byte2 = c .before .before .before .byte2 in
+    λ h. turn .inv .1 (h .set) (omega (arith, count-is _ _ _ (first-set .ensures .is) (byte2 .ensures), h .one-of)) (h .at)
 
 pub high-bit-spec : {M : Type 1} → statement M
 high-bit-spec =

@@ -32,13 +32,20 @@ add-total-2 : tie.Need-add-total-2
 add-total-2 c = search needs
 
 returns-2 : tie.Need-returns-2
-returns-2 c = λ fits. omega (arith, fits .total, count-is _ _ _ (c .before .first-set .ensures .is) (c .before .before .byte .ensures), c .before .before .byte .ensures)
+returns-2 c =
+    let first-set = c .before .first-set in
+    let byte = c .before .before .byte in
+    λ fits. omega (arith, fits .total, count-is _ _ _ (first-set .ensures .is) (byte .ensures), byte .ensures)
 
 returns-3 : tie.Need-returns-3
 returns-3 c =
+    let arities-fit = c .before .before .before .before .arities-fit in
+    let if1 = c .before .before .before .if1 in
+    let first-set = c .before .first-set in
+    let byte = c .before .before .byte in
     record {
-      arities = granted (c .before .before .before .before .arities-fit .result) _ (c .before .before .before .before .arities-fit .ensures) (c .before .before .before .if1 .left);
-      total = omega (arith, count-is _ _ _ (c .before .first-set .ensures .is) (c .before .before .byte .ensures), c .before .before .byte .ensures);
+      arities = granted (arities-fit .result) _ (arities-fit .ensures) (if1 .left);
+      total = omega (arith, count-is _ _ _ (first-set .ensures .is) (byte .ensures), byte .ensures);
     }
 
 pub length-fits-spec : {M : Type 1} → statement M

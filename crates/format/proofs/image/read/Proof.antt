@@ -31,26 +31,41 @@ length-fits-requires c κs = search needs
 
 returns-3 : tie.Need-returns-3
 returns-3 c =
+    let begins = c .before .before .before .before .before .begins in
+    let if1 = c .before .before .before .before .if1 in
+    let sizes-fit = c .before .before .before .sizes-fit in
+    let if2 = c .before .before .if2 in
+    let length-fits = c .before .length-fits in
     inr (
-      passed (granted (c .before .before .before .before .before .begins .result) _ (c .before .before .before .before .before .begins .ensures) (c .before .before .before .before .if1 .left)),
+      passed (granted (begins .result) _ (begins .ensures) (if1 .left)),
       inr (
-        passed (granted (c .before .before .before .sizes-fit .result) _ (c .before .before .before .sizes-fit .ensures) (c .before .before .if2 .left)),
-        inl (refl, denied (c .before .length-fits .result) _ (c .before .length-fits .ensures) (c .if3 .taken)),
+        passed (granted (sizes-fit .result) _ (sizes-fit .ensures) (if2 .left)),
+        inl (refl, denied (length-fits .result) _ (length-fits .ensures) (c .if3 .taken)),
       ),
     )
 
 high-bit-requires : tie.Need-high-bit-requires
-high-bit-requires c κs = granted (c .before .before .before .sizes-fit .result) _ (c .before .before .before .sizes-fit .ensures) (c .before .before .if2 .left)
+high-bit-requires c κs =
+    let sizes-fit = c .before .before .before .sizes-fit in
+    let if2 = c .before .before .if2 in
+    granted (sizes-fit .result) _ (sizes-fit .ensures) (if2 .left)
 
 returns-4 : tie.Need-returns-4
 returns-4 c =
+    let begins = c .before .before .before .before .before .before .before .begins in
+    let if1 = c .before .before .before .before .before .before .if1 in
+    let sizes-fit = c .before .before .before .before .before .sizes-fit in
+    let if2 = c .before .before .before .before .if2 in
+    let length-fits = c .before .before .before .length-fits in
+    let if3 = c .before .before .if3 in
+    let high-bit = c .before .high-bit in
     inr (
-      passed (granted (c .before .before .before .before .before .before .before .begins .result) _ (c .before .before .before .before .before .before .before .begins .ensures) (c .before .before .before .before .before .before .if1 .left)),
+      passed (granted (begins .result) _ (begins .ensures) (if1 .left)),
       inr (
-        passed (granted (c .before .before .before .before .before .sizes-fit .result) _ (c .before .before .before .before .before .sizes-fit .ensures) (c .before .before .before .before .if2 .left)),
+        passed (granted (sizes-fit .result) _ (sizes-fit .ensures) (if2 .left)),
         inr (
-          passed (granted (c .before .before .before .length-fits .result) _ (c .before .before .before .length-fits .ensures) (c .before .before .if3 .left)),
-          inl (refl, decided _ (c .before .high-bit .ensures) (c .if4 .taken)),
+          passed (granted (length-fits .result) _ (length-fits .ensures) (if3 .left)),
+          inl (refl, decided _ (high-bit .ensures) (c .if4 .taken)),
         ),
       ),
     )
@@ -60,15 +75,24 @@ dead-stop-requires c κs = search needs
 
 returns-5 : tie.Need-returns-5
 returns-5 c =
+    let begins = c .before .before .before .before .before .before .before .before .before .begins in
+    let if1 = c .before .before .before .before .before .before .before .before .if1 in
+    let sizes-fit = c .before .before .before .before .before .before .before .sizes-fit in
+    let if2 = c .before .before .before .before .before .before .if2 in
+    let length-fits = c .before .before .before .before .before .length-fits in
+    let if3 = c .before .before .before .before .if3 in
+    let high-bit = c .before .before .before .high-bit in
+    let if4 = c .before .before .if4 in
+    let dead-stop = c .before .dead-stop in
     inr (
-      passed (granted (c .before .before .before .before .before .before .before .before .before .begins .result) _ (c .before .before .before .before .before .before .before .before .before .begins .ensures) (c .before .before .before .before .before .before .before .before .if1 .left)),
+      passed (granted (begins .result) _ (begins .ensures) (if1 .left)),
       inr (
-        passed (granted (c .before .before .before .before .before .before .before .sizes-fit .result) _ (c .before .before .before .before .before .before .before .sizes-fit .ensures) (c .before .before .before .before .before .before .if2 .left)),
+        passed (granted (sizes-fit .result) _ (sizes-fit .ensures) (if2 .left)),
         inr (
-          passed (granted (c .before .before .before .before .before .length-fits .result) _ (c .before .before .before .before .before .length-fits .ensures) (c .before .before .before .before .if3 .left)),
+          passed (granted (length-fits .result) _ (length-fits .ensures) (if3 .left)),
           inr (
-            refuted _ (c .before .before .before .high-bit .ensures) (c .before .before .if4 .left),
-            inl (refl, decided _ (c .before .dead-stop .ensures) (c .if5 .taken)),
+            refuted _ (high-bit .ensures) (if4 .left),
+            inl (refl, decided _ (dead-stop .ensures) (c .if5 .taken)),
           ),
         ),
       ),
@@ -91,24 +115,36 @@ first-set-requires c κs = search needs
 
 returns-6 : tie.Need-returns-6
 returns-6 c =
+    let begins = c .before .before .before .before .before .before .before .before .before .before .before .before .begins in
+    let if1 = c .before .before .before .before .before .before .before .before .before .before .before .if1 in
+    let sizes-fit = c .before .before .before .before .before .before .before .before .before .before .sizes-fit in
+    let if2 = c .before .before .before .before .before .before .before .before .before .if2 in
+    let length-fits = c .before .before .before .before .before .before .before .before .length-fits in
+    let if3 = c .before .before .before .before .before .before .before .if3 in
+    let high-bit = c .before .before .before .before .before .before .high-bit in
+    let if4 = c .before .before .before .before .before .if4 in
+    let dead-stop = c .before .before .before .before .dead-stop in
+    let if5 = c .before .before .before .if5 in
+    let byte2 = c .before .byte2 in
+    let byte = c .before .before .byte in
     record {
       clear = (
-        passed (granted (c .before .before .before .before .before .before .before .before .before .before .before .before .begins .result) _ (c .before .before .before .before .before .before .before .before .before .before .before .before .begins .ensures) (c .before .before .before .before .before .before .before .before .before .before .before .if1 .left)),
+        passed (granted (begins .result) _ (begins .ensures) (if1 .left)),
         (
-          passed (granted (c .before .before .before .before .before .before .before .before .before .before .sizes-fit .result) _ (c .before .before .before .before .before .before .before .before .before .before .sizes-fit .ensures) (c .before .before .before .before .before .before .before .before .before .if2 .left)),
+          passed (granted (sizes-fit .result) _ (sizes-fit .ensures) (if2 .left)),
           (
-            passed (granted (c .before .before .before .before .before .before .before .before .length-fits .result) _ (c .before .before .before .before .before .before .before .before .length-fits .ensures) (c .before .before .before .before .before .before .before .if3 .left)),
+            passed (granted (length-fits .result) _ (length-fits .ensures) (if3 .left)),
             (
-              refuted _ (c .before .before .before .before .before .before .high-bit .ensures) (c .before .before .before .before .before .if4 .left),
+              refuted _ (high-bit .ensures) (if4 .left),
               (
-                refuted _ (c .before .before .before .before .dead-stop .ensures) (c .before .before .before .if5 .left),
+                refuted _ (dead-stop .ensures) (if5 .left),
                 tt,
               ),
             ),
           ),
         ),
       );
-      is = λ i. record { stages = c .before .byte2 .ensures i; predicates = c .before .before .byte .ensures i; sets = count-is _ _ _ (c .first-set .ensures .is) (c .before .before .byte .ensures) i };
+      is = λ i. record { stages = byte2 .ensures i; predicates = byte .ensures i; sets = count-is _ _ _ (c .first-set .ensures .is) (byte .ensures) i };
     }
 
 pub read-spec : {M : Type 1} → statement M

@@ -31,7 +31,11 @@ entry-requires : tie.Need-entry-requires Inv-loop μ-loop
 entry-requires c κs = search needs
 
 noted-operands-requires : tie.Need-noted-operands-requires Inv-loop μ-loop
-noted-operands-requires c κs = subst⁻¹ (λ (r : Record). OperandsSmall (operandsIn r)) (c .entry .ensures) (c .before .before .before .before .before .pre (c .before .before .loop .e) (omega (arith, c .before .before .before .byte .ensures)))
+noted-operands-requires c κs =
+    let pre = c .before .before .before .before .before .pre in
+    let turn = c .before .before .loop in
+    let byte = c .before .before .before .byte in
+    subst⁻¹ (λ (r : Record). OperandsSmall (operandsIn r)) (c .entry .ensures) (pre (turn .e) (omega (arith, byte .ensures)))
 
 add-e : tie.Need-add-e Inv-loop μ-loop
 add-e c = search needs

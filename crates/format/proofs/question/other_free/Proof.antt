@@ -26,7 +26,12 @@ has-requires : tie.Need-has-requires Inv-loop μ-loop
 has-requires c κs = search needs
 
 returns : tie.Need-returns Inv-loop μ-loop
-returns c = record { variable = c .before .before .before .loop .v; from = c .before .before .before .loop .inv .0; to = omega arith; free = c .before .before .before .before .free .ensures (c .before .before .before .loop .v) (omega arith) .0 (decided _ (c .before .has .ensures) (c .if1 .taken)) }
+returns c =
+    let turn = c .before .before .before .loop in
+    let free′ = c .before .before .before .before .free in
+    let has = c .before .has in
+    let is-free = free′ .ensures (turn .v) (omega arith) .0 (decided _ (has .ensures) (c .if1 .taken)) in
+    record { variable = turn .v; from = turn .inv .0; to = omega arith; free = is-free }
 
 add-v : tie.Need-add-v Inv-loop μ-loop
 add-v c = search needs
@@ -35,11 +40,14 @@ loop-less : tie.Need-loop-less Inv-loop μ-loop
 loop-less c = search needs
 
 loop-again : tie.Need-loop-again Inv-loop μ-loop
-loop-again c = (
-  omega arith,
-  omega arith,
-  below-more _ _ (c .before .before .before .loop .inv .2) (λ from f. refuted _ (c .before .has .ensures) (c .if1 .left) (c .before .before .before .before .free .ensures (c .before .before .before .loop .v) (omega arith) .1 f)),
-)
+loop-again c =
+    let turn = c .before .before .before .loop in
+    let has = c .before .has in
+    let free = c .before .before .before .before .free in (
+      omega arith,
+      omega arith,
+      below-more _ _ (turn .inv .2) (λ from f. refuted _ (has .ensures) (c .if1 .left) (free .ensures (turn .v) (omega arith) .1 f)),
+    )
 
 returns-2 : tie.Need-returns-2 Inv-loop μ-loop
 returns-2 c = λ o. c .before .loop .inv .2 (o .variable) (omega (arith, o .to)) (o .from) (o .free)

@@ -19,13 +19,20 @@ enum-known-shape : tie.Need-enum-known-shape
 enum-known-shape c = search needs
 
 read-with-requires : tie.Need-read-with-requires
-read-with-requires c κs = subst (λ (a : Answer). TableAnswer (c .before .before .before .before .before .before .args .image .now) (c .before .before .before .before .before .before .args .table .now) a) (c .before .shape .given .1) (c .before .before .before .read .ensures)
+read-with-requires c κs =
+    let args = c .before .before .before .before .before .before .args in
+    let shape = c .before .shape in
+    let read = c .before .before .before .read in
+    subst (λ (a : Answer). TableAnswer (args .image .now) (args .table .now) a) (shape .given .1) (read .ensures)
 
 returns : tie.Need-returns
 returns c =
-    given-first (setupConditions (c .before .before .before .before .before .before .args .image .now) (c .before .before .before .before .before .before .args .table .now))
-    (goalConditions (c .before .before .before .before .before .before .args .image .now) (c .before .before .before .before .before .before .args .table .now) (c .before .before .before .before .before .before .args .goal) (c .before .before .before .before .before .before .args .start)) _
-    (subst (λ (a : Answer). TableAnswer (c .before .before .before .before .before .before .args .image .now) (c .before .before .before .before .before .before .args .table .now) a) (c .before .k .given .1) (c .before .before .before .read .ensures))
+    let args = c .before .before .before .before .before .before .args in
+    let k = c .before .k in
+    let read = c .before .before .before .read in
+    given-first (setupConditions (args .image .now) (args .table .now))
+    (goalConditions (args .image .now) (args .table .now) (args .goal) (args .start)) _
+    (subst (λ (a : Answer). TableAnswer (args .image .now) (args .table .now) a) (k .given .1) (read .ensures))
 
 returns-2 : tie.Need-returns-2
 returns-2 c = search needs

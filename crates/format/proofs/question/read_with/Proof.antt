@@ -15,19 +15,24 @@ use Rattle.format.proofs.question.read_with.Tie as tie
 
 returns : tie.Need-returns
 returns c =
-    let image = c .before .before .before .before .args .image .now in
-    let table = c .before .before .before .before .args .table .now in
-    given-later (setupConditions image table) (goalConditions image table (c .before .before .before .before .args .goal) (c .before .before .before .before .args .start)) R.NoSuchGoal (c .before .before .before .before .pre .clear)
-    (inl (refl, omega (arith, c .if1 .taken, shape-entries image table (c .before .before .before .before .args .shape) (c .before .before .before .before .pre))))
+    let args = c .before .before .before .before .args in
+    let pre = c .before .before .before .before .pre in
+    let image = args .image .now in
+    let table = args .table .now in
+    given-later (setupConditions image table) (goalConditions image table (args .goal) (args .start)) R.NoSuchGoal (pre .clear)
+    (inl (refl, omega (arith, c .if1 .taken, shape-entries image table (args .shape) (pre))))
 
 returns-2 : tie.Need-returns-2
 returns-2 c =
-    let image = c .before .before .before .before .before .args .image .now in
-    let table = c .before .before .before .before .before .args .table .now in
-    given-later (setupConditions image table) (goalConditions image table (c .before .before .before .before .before .args .goal) (c .before .before .before .before .before .args .start)) R.NoSuchStart (c .before .before .before .before .before .pre .clear)
+    let args = c .before .before .before .before .before .args in
+    let pre = c .before .before .before .before .before .pre in
+    let if1 = c .before .if1 in
+    let image = args .image .now in
+    let table = args .table .now in
+    given-later (setupConditions image table) (goalConditions image table (args .goal) (args .start)) R.NoSuchStart (pre .clear)
     (inr (
-      λ h. omega (arith, h, c .before .if1 .left, shape-entries image table (c .before .before .before .before .before .args .shape) (c .before .before .before .before .before .pre)),
-      inl (refl, omega (arith, c .if2 .taken, shape-stages image table (c .before .before .before .before .before .args .shape) (c .before .before .before .before .before .pre))),
+      λ h. omega (arith, h, if1 .left, shape-entries image table (args .shape) (pre)),
+      inl (refl, omega (arith, c .if2 .taken, shape-stages image table (args .shape) (pre))),
     ))
 
 cast-g : tie.Need-cast-g
@@ -38,14 +43,20 @@ other-free-requires c κs = search needs
 
 returns-3 : tie.Need-returns-3
 returns-3 c =
-    let image = c .before .before .before .before .before .before .before .args .image .now in
-    let table = c .before .before .before .before .before .before .before .args .table .now in
-    given-later (setupConditions image table) (goalConditions image table (c .before .before .before .before .before .before .before .args .goal) (c .before .before .before .before .before .before .before .args .start)) R.FreeVariable (c .before .before .before .before .before .before .before .pre .clear)
+    let args = c .before .before .before .before .before .before .before .args in
+    let pre = c .before .before .before .before .before .before .before .pre in
+    let if1 = c .before .before .before .if1 in
+    let if2 = c .before .before .if2 in
+    let other-free = c .before .other-free in
+    let image = args .image .now in
+    let table = args .table .now in
+    let same = goal-byte image table (args .shape) (pre) (args .goal) (if1 .left) in
+    given-later (setupConditions image table) (goalConditions image table (args .goal) (args .start)) R.FreeVariable (pre .clear)
     (inr (
-      λ h. omega (arith, h, c .before .before .before .if1 .left, shape-entries image table (c .before .before .before .before .before .before .before .args .shape) (c .before .before .before .before .before .before .before .pre)),
+      λ h. omega (arith, h, if1 .left, shape-entries image table (args .shape) (pre)),
       inr (
-        λ h. omega (arith, h, c .before .before .if2 .left, shape-stages image table (c .before .before .before .before .before .before .before .args .shape) (c .before .before .before .before .before .before .before .pre)),
-        inl (refl, subst (λ (g : ℕ). OtherFree image table g) (goal-byte image table (c .before .before .before .before .before .before .before .args .shape) (c .before .before .before .before .before .before .before .pre) (c .before .before .before .before .before .before .before .args .goal) (c .before .before .before .if1 .left)) (decided _ (c .before .other-free .ensures) (c .if3 .taken))),
+        λ h. omega (arith, h, if2 .left, shape-stages image table (args .shape) (pre)),
+        inl (refl, subst (λ (g : ℕ). OtherFree image table g) same (decided _ (other-free .ensures) (c .if3 .taken))),
       ),
     ))
 
@@ -54,25 +65,31 @@ cast-t14 c = search needs
 
 returns-4 : tie.Need-returns-4
 returns-4 c =
-    let image = c .before .before .before .before .before .before .before .args .image .now in
-    let table = c .before .before .before .before .before .before .before .args .table .now in
+    let args = c .before .before .before .before .before .before .before .args in
+    let pre = c .before .before .before .before .before .before .before .pre in
+    let if1 = c .before .before .before .if1 in
+    let if2 = c .before .before .if2 in
+    let other-free = c .before .other-free in
+    let image = args .image .now in
+    let table = args .table .now in
+    let same = goal-byte image table (args .shape) (pre) (args .goal) (if1 .left) in
     record {
       clear =
-          clear-both (setupConditions image table) (goalConditions image table (c .before .before .before .before .before .before .before .args .goal) (c .before .before .before .before .before .before .before .args .start)) (c .before .before .before .before .before .before .before .pre .clear) (
-            λ h. omega (arith, h, c .before .before .before .if1 .left, shape-entries image table (c .before .before .before .before .before .before .before .args .shape) (c .before .before .before .before .before .before .before .pre)),
+          clear-both (setupConditions image table) (goalConditions image table (args .goal) (args .start)) (pre .clear) (
+            λ h. omega (arith, h, if1 .left, shape-entries image table (args .shape) (pre)),
             (
-              λ h. omega (arith, h, c .before .before .if2 .left, shape-stages image table (c .before .before .before .before .before .before .before .args .shape) (c .before .before .before .before .before .before .before .pre)),
+              λ h. omega (arith, h, if2 .left, shape-stages image table (args .shape) (pre)),
               (
-                λ o. refuted _ (c .before .other-free .ensures) (c .if3 .left) (subst⁻¹ (λ (g : ℕ). OtherFree image table g) (goal-byte image table (c .before .before .before .before .before .before .before .args .shape) (c .before .before .before .before .before .before .before .pre) (c .before .before .before .before .before .before .before .args .goal) (c .before .before .before .if1 .left)) o),
+                λ o. refuted _ (other-free .ensures) (c .if3 .left) (subst⁻¹ (λ (g : ℕ). OtherFree image table g) same o),
                 tt,
               ),
             ),
           );
       is = λ i.
           record {
-            shape = c .before .before .before .before .before .before .before .pre .is i;
-            goal = goal-byte image table (c .before .before .before .before .before .before .before .args .shape) (c .before .before .before .before .before .before .before .pre) (c .before .before .before .before .before .before .before .args .goal) (c .before .before .before .if1 .left) i;
-            start = start-byte image table (c .before .before .before .before .before .before .before .args .shape) (c .before .before .before .before .before .before .before .pre) (c .before .before .before .before .before .before .before .args .start) (c .before .before .if2 .left) i;
+            shape = pre .is i;
+            goal = goal-byte image table (args .shape) (pre) (args .goal) (if1 .left) i;
+            start = start-byte image table (args .shape) (pre) (args .start) (if2 .left) i;
           };
     }
 

@@ -19,7 +19,10 @@ is-term-requires : tie.Need-is-term-requires
 is-term-requires c κs = search needs
 
 returns-2 : tie.Need-returns-2
-returns-2 c = λ rule. denied (c .before .is-term .result) _ (c .before .is-term .ensures) (c .if2 .taken) (rw (c .before .before .before .before .before .byte .ensures) (rule .first))
+returns-2 c =
+    let is-term = c .before .is-term in
+    let byte = c .before .before .before .before .before .byte in
+    λ rule. denied (is-term .result) _ (is-term .ensures) (c .if2 .taken) (rw (byte .ensures) (rule .first))
 
 cast-byte : tie.Need-cast-byte
 cast-byte c = search needs
@@ -34,7 +37,11 @@ second-term-requires : tie.Need-second-term-requires
 second-term-requires c κs = search needs
 
 returns-3 : tie.Need-returns-3
-returns-3 c = λ rule. denied (c .before .second-term .result) _ (c .before .second-term .ensures) (c .if3 .taken) (rw (c .before .before .before .before .before .before .before .before .before .byte .ensures, c .before .before .byte3 .ensures) (rule .second))
+returns-3 c =
+    let second-term = c .before .second-term in
+    let byte = c .before .before .before .before .before .before .before .before .before .byte in
+    let byte3 = c .before .before .byte3 in
+    λ rule. denied (second-term .result) _ (second-term .ensures) (c .if3 .taken) (rw (byte .ensures, byte3 .ensures) (rule .second))
 
 returns-4 : tie.Need-returns-4
 returns-4 c = search needs
@@ -44,10 +51,17 @@ returns-5 c = search needs
 
 returns-6 : tie.Need-returns-6
 returns-6 c =
+    let byte2 = c .before .before .before .before .before .before .before .before .before .before .before .before .byte2 in
+    let byte = c .before .before .before .before .before .before .before .before .before .before .before .before .before .byte in
+    let is-term = c .before .before .before .before .before .before .before .before .before .is-term in
+    let if2 = c .before .before .before .before .before .before .before .before .if2 in
+    let byte3 = c .before .before .before .before .before .before .byte3 in
+    let second-term = c .before .before .before .before .before .second-term in
+    let if3 = c .before .before .before .before .if3 in
     record {
-      predicate = omega (arith, c .before .before .before .before .before .before .before .before .before .before .before .before .byte2 .ensures);
-      first = rw (c .before .before .before .before .before .before .before .before .before .before .before .before .before .byte .ensures) at (granted (c .before .before .before .before .before .before .before .before .before .is-term .result) _ (c .before .before .before .before .before .before .before .before .before .is-term .ensures) (c .before .before .before .before .before .before .before .before .if2 .left));
-      second = rw (c .before .before .before .before .before .before .before .before .before .before .before .before .before .byte .ensures, c .before .before .before .before .before .before .byte3 .ensures) at (granted (c .before .before .before .before .before .second-term .result) _ (c .before .before .before .before .before .second-term .ensures) (c .before .before .before .before .if3 .left));
+      predicate = omega (arith, byte2 .ensures);
+      first = rw (byte .ensures) at (granted (is-term .result) _ (is-term .ensures) (if2 .left));
+      second = rw (byte .ensures, byte3 .ensures) at (granted (second-term .result) _ (second-term .ensures) (if3 .left));
       x = omega arith;
       y = omega arith;
     }

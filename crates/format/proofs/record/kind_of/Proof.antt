@@ -43,7 +43,21 @@ returns-12 : tie.Need-returns-12
 returns-12 c = search needs
 
 returns-13 : tie.Need-returns-13
-returns-13 c = no-kind _ (past-arm (past-arm (past-arm (past-arm (past-arm (past-arm (past-arm (past-arm (past-arm (past-arm (past-arm (past-arm zero-le (c .match .rest .0 .0 .0 .0 .0 .0 .0 .0 .0 .0 .0 .1)) (c .match .rest .0 .0 .0 .0 .0 .0 .0 .0 .0 .0 .1)) (c .match .rest .0 .0 .0 .0 .0 .0 .0 .0 .0 .1)) (c .match .rest .0 .0 .0 .0 .0 .0 .0 .0 .1)) (c .match .rest .0 .0 .0 .0 .0 .0 .0 .1)) (c .match .rest .0 .0 .0 .0 .0 .0 .1)) (c .match .rest .0 .0 .0 .0 .0 .1)) (c .match .rest .0 .0 .0 .0 .1)) (c .match .rest .0 .0 .0 .1)) (c .match .rest .0 .0 .1)) (c .match .rest .0 .1)) (c .match .rest .1))
+returns-13 c =
+    let rest = c .match .rest in
+    let one = past-arm {k = c .before .args .kind} zero-le (rest .0 .0 .0 .0 .0 .0 .0 .0 .0 .0 .0 .1) in
+    let two = past-arm one (rest .0 .0 .0 .0 .0 .0 .0 .0 .0 .0 .1) in
+    let three = past-arm two (rest .0 .0 .0 .0 .0 .0 .0 .0 .0 .1) in
+    let four = past-arm three (rest .0 .0 .0 .0 .0 .0 .0 .0 .1) in
+    let five = past-arm four (rest .0 .0 .0 .0 .0 .0 .0 .1) in
+    let six = past-arm five (rest .0 .0 .0 .0 .0 .0 .1) in
+    let seven = past-arm six (rest .0 .0 .0 .0 .0 .1) in
+    let eight = past-arm seven (rest .0 .0 .0 .0 .1) in
+    let nine = past-arm eight (rest .0 .0 .0 .1) in
+    let ten = past-arm nine (rest .0 .0 .1) in
+    let eleven = past-arm ten (rest .0 .1) in
+    let twelve = past-arm eleven (rest .1) in
+    no-kind _ twelve
 
 pub kind-of-spec : {M : Type 1} → statement M
 kind-of-spec =

@@ -55,32 +55,57 @@ enum-told-6 c = search needs
 
 returns : tie.Need-returns
 returns c =
-    by-row S.Constant (c .before .before .before .before .before .before .before .args .image .now) (c .before .before .before .before .before .before .before .args .e) (c .before .before .before .before .before .before .before .args .r) (c .constant-rule .result) _ _ (c .before .before .before .before .kind-of .ensures) (c .before .before .before .sort-of .ensures)
-    (c .before .enum-told .given .1) (c .constant-rule .ensures)
+    let args = c .before .before .before .before .before .before .before .args in
+    let kind-of = c .before .before .before .before .kind-of in
+    let sort-of = c .before .before .before .sort-of in
+    let enum-told = c .before .enum-told in
+    by-row S.Constant (args .image .now) (args .e) (args .r) (c .constant-rule .result) _ _ (kind-of .ensures) (sort-of .ensures)
+    (enum-told .given .1) (c .constant-rule .ensures)
 
 returns-2 : tie.Need-returns-2
 returns-2 c =
-    by-row S.Atom (c .before .before .before .before .before .before .before .args .image .now) (c .before .before .before .before .before .before .before .args .e) (c .before .before .before .before .before .before .before .args .r) (c .atom-rule .result) _ _ (c .before .before .before .before .kind-of .ensures) (c .before .before .before .sort-of .ensures)
-    (c .before .enum-told2 .given .1) (c .atom-rule .ensures)
+    let args = c .before .before .before .before .before .before .before .args in
+    let kind-of = c .before .before .before .before .kind-of in
+    let sort-of = c .before .before .before .sort-of in
+    let enum-told2 = c .before .enum-told2 in
+    by-row S.Atom (args .image .now) (args .e) (args .r) (c .atom-rule .result) _ _ (kind-of .ensures) (sort-of .ensures)
+    (enum-told2 .given .1) (c .atom-rule .ensures)
 
 returns-3 : tie.Need-returns-3
 returns-3 c =
-    by-row S.Junction (c .before .before .before .before .before .before .before .args .image .now) (c .before .before .before .before .before .before .before .args .e) (c .before .before .before .before .before .before .before .args .r) (c .junction-rule .result) _ _ (c .before .before .before .before .kind-of .ensures) (c .before .before .before .sort-of .ensures)
-    (c .before .enum-told3 .given .1) (c .junction-rule .ensures)
+    let args = c .before .before .before .before .before .before .before .args in
+    let kind-of = c .before .before .before .before .kind-of in
+    let sort-of = c .before .before .before .sort-of in
+    let enum-told3 = c .before .enum-told3 in
+    by-row S.Junction (args .image .now) (args .e) (args .r) (c .junction-rule .result) _ _ (kind-of .ensures) (sort-of .ensures)
+    (enum-told3 .given .1) (c .junction-rule .ensures)
 
 returns-4 : tie.Need-returns-4
 returns-4 c =
-    by-row S.Unary (c .before .before .before .before .before .before .before .args .image .now) (c .before .before .before .before .before .before .before .args .e) (c .before .before .before .before .before .before .before .args .r) (c .unary-rule .result) _ _ (c .before .before .before .before .kind-of .ensures) (c .before .before .before .sort-of .ensures)
-    (c .before .enum-told4 .given .1) (subst (λ (n : ℕ). Decides (c .unary-rule .result) (UnaryRule n (c .before .before .before .before .before .before .before .args .e) (c .before .before .before .before .before .before .before .args .r))) (c .before .before .before .before .before .byte .ensures) (c .unary-rule .ensures))
+    let args = c .before .before .before .before .before .before .before .args in
+    let kind-of = c .before .before .before .before .kind-of in
+    let sort-of = c .before .before .before .sort-of in
+    let enum-told4 = c .before .enum-told4 in
+    let byte = c .before .before .before .before .before .byte in
+    by-row S.Unary (args .image .now) (args .e) (args .r) (c .unary-rule .result) _ _ (kind-of .ensures) (sort-of .ensures)
+    (enum-told4 .given .1) (subst (λ (n : ℕ). Decides (c .unary-rule .result) (UnaryRule n (args .e) (args .r))) (byte .ensures) (c .unary-rule .ensures))
 
 returns-5 : tie.Need-returns-5
 returns-5 c =
-    by-row S.Binary (c .before .before .before .before .before .before .before .args .image .now) (c .before .before .before .before .before .before .before .args .e) (c .before .before .before .before .before .before .before .args .r) (c .binary-rule .result) _ _ (c .before .before .before .before .kind-of .ensures) (c .before .before .before .sort-of .ensures)
-    (c .before .enum-told5 .given .1) (subst (λ (n : ℕ). Decides (c .binary-rule .result) (BinaryRule n (c .before .before .before .before .before .before .before .args .e) (c .before .before .before .before .before .before .before .args .r))) (c .before .before .before .before .before .byte .ensures) (c .binary-rule .ensures))
+    let args = c .before .before .before .before .before .before .before .args in
+    let kind-of = c .before .before .before .before .kind-of in
+    let sort-of = c .before .before .before .sort-of in
+    let enum-told5 = c .before .enum-told5 in
+    let byte = c .before .before .before .before .before .byte in
+    by-row S.Binary (args .image .now) (args .e) (args .r) (c .binary-rule .result) _ _ (kind-of .ensures) (sort-of .ensures)
+    (enum-told5 .given .1) (subst (λ (n : ℕ). Decides (c .binary-rule .result) (BinaryRule n (args .e) (args .r))) (byte .ensures) (c .binary-rule .ensures))
 
 returns-6 : tie.Need-returns-6
 returns-6 c =
-    by-row S.NoSort (c .before .before .before .before .before .before .args .image .now) (c .before .before .before .before .before .before .args .e) (c .before .before .before .before .before .before .args .r) false _ _ (c .before .before .before .kind-of .ensures) (c .before .before .sort-of .ensures) (c .enum-told6 .given .1) (λ none. none)
+    let args = c .before .before .before .before .before .before .args in
+    let kind-of = c .before .before .before .kind-of in
+    let sort-of = c .before .before .sort-of in
+    by-row S.NoSort (args .image .now) (args .e) (args .r) false _ _ (kind-of .ensures) (sort-of .ensures) (c .enum-told6 .given .1) (λ none. none)
 
 pub ruled-spec : {M : Type 1} → statement M
 ruled-spec =

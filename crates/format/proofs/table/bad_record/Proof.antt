@@ -33,8 +33,13 @@ ruled-requires c κs = search needs
 
 returns : tie.Need-returns Inv-loop μ-loop
 returns c =
-    let found = ruled-at (c .before .before .before .before .before .before .before .before .args .image .now) (c .before .before .before .before .before .before .before .before .args .table .now) (c .before .before .before .before .loop .e) (c .before .before .entry .result) (c .before .ruled .result) (c .before .before .entry .ensures) (c .before .ruled .ensures) in
-    record { entry = c .before .before .before .before .loop .e; below = omega (arith, c .before .before .before .before .before .byte .ensures); broken = denied (c .before .ruled .result) _ found (c .if1 .taken) }
+    let args = c .before .before .before .before .before .before .before .before .args in
+    let turn = c .before .before .before .before .loop in
+    let entry′ = c .before .before .entry in
+    let ruled = c .before .ruled in
+    let byte = c .before .before .before .before .before .byte in
+    let found = ruled-at (args .image .now) (args .table .now) (turn .e) (entry′ .result) (ruled .result) (entry′ .ensures) (ruled .ensures) in
+    record { entry = turn .e; below = omega (arith, byte .ensures); broken = denied (ruled .result) _ found (c .if1 .taken) }
 
 add-e : tie.Need-add-e Inv-loop μ-loop
 add-e c = search needs
@@ -44,8 +49,12 @@ loop-less c = search needs
 
 loop-again : tie.Need-loop-again Inv-loop μ-loop
 loop-again c =
-    let found = ruled-at (c .before .before .before .before .before .before .before .before .args .image .now) (c .before .before .before .before .before .before .before .before .args .table .now) (c .before .before .before .before .loop .e) (c .before .before .entry .result) (c .before .ruled .result) (c .before .before .entry .ensures) (c .before .ruled .ensures) in
-    (omega arith, below-more _ _ (c .before .before .before .before .loop .inv .1) (granted (c .before .ruled .result) _ found (c .if1 .left)))
+    let args = c .before .before .before .before .before .before .before .before .args in
+    let turn = c .before .before .before .before .loop in
+    let entry = c .before .before .entry in
+    let ruled = c .before .ruled in
+    let found = ruled-at (args .image .now) (args .table .now) (turn .e) (entry .result) (ruled .result) (entry .ensures) (ruled .ensures) in
+    (omega arith, below-more _ _ (turn .inv .1) (granted (ruled .result) _ found (c .if1 .left)))
 
 returns-2 : tie.Need-returns-2 Inv-loop μ-loop
 returns-2 c = λ bad. bad .broken (c .before .loop .inv .1 (bad .entry) (omega (arith, c .before .before .byte .ensures, bad .below)))

@@ -20,12 +20,19 @@ enum-known-shape : tie.Need-enum-known-shape
 enum-known-shape c = search needs
 
 read-with-requires : tie.Need-read-with-requires
-read-with-requires c κs = subst (λ (a : Answer). ImageAnswer (c .before .before .before .before .before .before .args .image .now) a) (c .before .shape .given .1) (c .before .before .before .read .ensures)
+read-with-requires c κs =
+    let args = c .before .before .before .before .before .before .args in
+    let shape = c .before .shape in
+    let read = c .before .before .before .read in
+    subst (λ (a : Answer). ImageAnswer (args .image .now) a) (shape .given .1) (read .ensures)
 
 returns : tie.Need-returns
 returns c =
-    given-first (imageConditions (c .before .before .before .before .before .before .args .image .now)) (tableConditions (c .before .before .before .before .before .before .args .image .now) (c .before .before .before .before .before .before .args .table .now)) _
-    (subst (λ (a : Answer). ImageAnswer (c .before .before .before .before .before .before .args .image .now) a) (c .before .k .given .1) (c .before .before .before .read .ensures))
+    let args = c .before .before .before .before .before .before .args in
+    let k = c .before .k in
+    let read = c .before .before .before .read in
+    given-first (imageConditions (args .image .now)) (tableConditions (args .image .now) (args .table .now)) _
+    (subst (λ (a : Answer). ImageAnswer (args .image .now) a) (k .given .1) (read .ensures))
 
 returns-2 : tie.Need-returns-2
 returns-2 c = search needs

@@ -40,34 +40,54 @@ bad-record-requires c κs = search needs
 
 returns-3 : tie.Need-returns-3
 returns-3 c =
-    let image = c .before .before .before .before .before .before .before .before .args .image .now in
-    let table = c .before .before .before .before .before .before .before .before .args .table .now in
-    given-later (imageConditions image) (tableConditions image table) R.BadRecord (c .before .before .before .before .before .before .before .before .pre .clear)
+    let args = c .before .before .before .before .before .before .before .before .args in
+    let pre = c .before .before .before .before .before .before .before .before .pre in
+    let begins = c .before .before .before .before .before .begins in
+    let if1 = c .before .before .before .before .if1 in
+    let entries-fit = c .before .before .before .entries-fit in
+    let if2 = c .before .before .if2 in
+    let bad-record = c .before .bad-record in
+    let image = args .image .now in
+    let table = args .table .now in
+    given-later (imageConditions image) (tableConditions image table) R.BadRecord (pre .clear)
     (inr (
-      passed (granted (c .before .before .before .before .before .begins .result) _ (c .before .before .before .before .before .begins .ensures) (c .before .before .before .before .if1 .left)),
+      passed (granted (begins .result) _ (begins .ensures) (if1 .left)),
       inr (
-        passed (granted (c .before .before .before .entries-fit .result) _ (c .before .before .before .entries-fit .ensures) (c .before .before .if2 .left)),
-        inl (refl, decided _ (c .before .bad-record .ensures) (c .if3 .taken)),
+        passed (granted (entries-fit .result) _ (entries-fit .ensures) (if2 .left)),
+        inl (refl, decided _ (bad-record .ensures) (c .if3 .taken)),
       ),
     ))
 
 operand-twice-requires : tie.Need-operand-twice-requires
 operand-twice-requires c κs =
-    all-small (c .before .before .before .before .before .before .before .before .args .image .now) (c .before .before .before .before .before .before .before .before .args .table .now) (granted (c .before .before .before .entries-fit .result) _ (c .before .before .before .entries-fit .ensures) (c .before .before .if2 .left))
-    (refuted _ (c .before .bad-record .ensures) (c .if3 .left))
+    let args = c .before .before .before .before .before .before .before .before .args in
+    let entries-fit = c .before .before .before .entries-fit in
+    let if2 = c .before .before .if2 in
+    let bad-record = c .before .bad-record in
+    all-small (args .image .now) (args .table .now) (granted (entries-fit .result) _ (entries-fit .ensures) (if2 .left))
+    (refuted _ (bad-record .ensures) (c .if3 .left))
 
 returns-4 : tie.Need-returns-4
 returns-4 c =
-    let image = c .before .before .before .before .before .before .before .before .before .before .args .image .now in
-    let table = c .before .before .before .before .before .before .before .before .before .before .args .table .now in
-    given-later (imageConditions image) (tableConditions image table) R.OperandTwice (c .before .before .before .before .before .before .before .before .before .before .pre .clear)
+    let args = c .before .before .before .before .before .before .before .before .before .before .args in
+    let pre = c .before .before .before .before .before .before .before .before .before .before .pre in
+    let begins = c .before .before .before .before .before .before .before .begins in
+    let if1 = c .before .before .before .before .before .before .if1 in
+    let entries-fit = c .before .before .before .before .before .entries-fit in
+    let if2 = c .before .before .before .before .if2 in
+    let bad-record = c .before .before .before .bad-record in
+    let if3 = c .before .before .if3 in
+    let operand-twice = c .before .operand-twice in
+    let image = args .image .now in
+    let table = args .table .now in
+    given-later (imageConditions image) (tableConditions image table) R.OperandTwice (pre .clear)
     (inr (
-      passed (granted (c .before .before .before .before .before .before .before .begins .result) _ (c .before .before .before .before .before .before .before .begins .ensures) (c .before .before .before .before .before .before .if1 .left)),
+      passed (granted (begins .result) _ (begins .ensures) (if1 .left)),
       inr (
-        passed (granted (c .before .before .before .before .before .entries-fit .result) _ (c .before .before .before .before .before .entries-fit .ensures) (c .before .before .before .before .if2 .left)),
+        passed (granted (entries-fit .result) _ (entries-fit .ensures) (if2 .left)),
         inr (
-          refuted _ (c .before .before .before .bad-record .ensures) (c .before .before .if3 .left),
-          inl (refl, decided _ (c .before .operand-twice .ensures) (c .if4 .taken)),
+          refuted _ (bad-record .ensures) (if3 .left),
+          inl (refl, decided _ (operand-twice .ensures) (c .if4 .taken)),
         ),
       ),
     ))
@@ -77,18 +97,29 @@ nested-too-deep-requires c κs = search needs
 
 returns-5 : tie.Need-returns-5
 returns-5 c =
-    let image = c .before .before .before .before .before .before .before .before .before .before .before .before .args .image .now in
-    let table = c .before .before .before .before .before .before .before .before .before .before .before .before .args .table .now in
-    given-later (imageConditions image) (tableConditions image table) R.NestedTooDeep (c .before .before .before .before .before .before .before .before .before .before .before .before .pre .clear)
+    let args = c .before .before .before .before .before .before .before .before .before .before .before .before .args in
+    let pre = c .before .before .before .before .before .before .before .before .before .before .before .before .pre in
+    let begins = c .before .before .before .before .before .before .before .before .before .begins in
+    let if1 = c .before .before .before .before .before .before .before .before .if1 in
+    let entries-fit = c .before .before .before .before .before .before .before .entries-fit in
+    let if2 = c .before .before .before .before .before .before .if2 in
+    let bad-record = c .before .before .before .before .before .bad-record in
+    let if3 = c .before .before .before .before .if3 in
+    let operand-twice = c .before .before .before .operand-twice in
+    let if4 = c .before .before .if4 in
+    let nested-too-deep = c .before .nested-too-deep in
+    let image = args .image .now in
+    let table = args .table .now in
+    given-later (imageConditions image) (tableConditions image table) R.NestedTooDeep (pre .clear)
     (inr (
-      passed (granted (c .before .before .before .before .before .before .before .before .before .begins .result) _ (c .before .before .before .before .before .before .before .before .before .begins .ensures) (c .before .before .before .before .before .before .before .before .if1 .left)),
+      passed (granted (begins .result) _ (begins .ensures) (if1 .left)),
       inr (
-        passed (granted (c .before .before .before .before .before .before .before .entries-fit .result) _ (c .before .before .before .before .before .before .before .entries-fit .ensures) (c .before .before .before .before .before .before .if2 .left)),
+        passed (granted (entries-fit .result) _ (entries-fit .ensures) (if2 .left)),
         inr (
-          refuted _ (c .before .before .before .before .before .bad-record .ensures) (c .before .before .before .before .if3 .left),
+          refuted _ (bad-record .ensures) (if3 .left),
           inr (
-            refuted _ (c .before .before .before .operand-twice .ensures) (c .before .before .if4 .left),
-            inl (refl, decided _ (c .before .nested-too-deep .ensures) (c .if5 .taken)),
+            refuted _ (operand-twice .ensures) (if4 .left),
+            inl (refl, decided _ (nested-too-deep .ensures) (c .if5 .taken)),
           ),
         ),
       ),
@@ -102,27 +133,39 @@ cast-t15 c = search needs
 
 returns-6 : tie.Need-returns-6
 returns-6 c =
-    let image = c .before .before .before .before .before .before .before .before .before .before .before .before .before .args .image .now in
-    let table = c .before .before .before .before .before .before .before .before .before .before .before .before .before .args .table .now in
+    let args = c .before .before .before .before .before .before .before .before .before .before .before .before .before .args in
+    let pre = c .before .before .before .before .before .before .before .before .before .before .before .before .before .pre in
+    let begins = c .before .before .before .before .before .before .before .before .before .before .begins in
+    let if1 = c .before .before .before .before .before .before .before .before .before .if1 in
+    let entries-fit = c .before .before .before .before .before .before .before .before .entries-fit in
+    let if2 = c .before .before .before .before .before .before .before .if2 in
+    let bad-record = c .before .before .before .before .before .before .bad-record in
+    let if3 = c .before .before .before .before .before .if3 in
+    let operand-twice = c .before .before .before .before .operand-twice in
+    let if4 = c .before .before .before .if4 in
+    let nested-too-deep = c .before .before .nested-too-deep in
+    let if5 = c .before .if5 in
+    let image = args .image .now in
+    let table = args .table .now in
     record {
       clear =
-          clear-both (imageConditions image) (tableConditions image table) (c .before .before .before .before .before .before .before .before .before .before .before .before .before .pre .clear) (
-            passed (granted (c .before .before .before .before .before .before .before .before .before .before .begins .result) _ (c .before .before .before .before .before .before .before .before .before .before .begins .ensures) (c .before .before .before .before .before .before .before .before .before .if1 .left)),
+          clear-both (imageConditions image) (tableConditions image table) (pre .clear) (
+            passed (granted (begins .result) _ (begins .ensures) (if1 .left)),
             (
-              passed (granted (c .before .before .before .before .before .before .before .before .entries-fit .result) _ (c .before .before .before .before .before .before .before .before .entries-fit .ensures) (c .before .before .before .before .before .before .before .if2 .left)),
+              passed (granted (entries-fit .result) _ (entries-fit .ensures) (if2 .left)),
               (
-                refuted _ (c .before .before .before .before .before .before .bad-record .ensures) (c .before .before .before .before .before .if3 .left),
+                refuted _ (bad-record .ensures) (if3 .left),
                 (
-                  refuted _ (c .before .before .before .before .operand-twice .ensures) (c .before .before .before .if4 .left),
+                  refuted _ (operand-twice .ensures) (if4 .left),
                   (
-                    refuted _ (c .before .before .nested-too-deep .ensures) (c .before .if5 .left),
+                    refuted _ (nested-too-deep .ensures) (if5 .left),
                     tt,
                   ),
                 ),
               ),
             ),
           );
-      is = λ i. record { image = c .before .before .before .before .before .before .before .before .before .before .before .before .before .pre .is i; entries = c .byte .ensures i };
+      is = λ i. record { image = pre .is i; entries = c .byte .ensures i };
     }
 
 pub read-with-spec : {M : Type 1} → statement M
