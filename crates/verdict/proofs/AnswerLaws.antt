@@ -18,7 +18,6 @@ use lib.Dec.{T, eqb}
 use lib.ListN.{length}
 use Rattle.model.specs.Graph.{Readable}
 use Rattle.model.specs.Formula.{pick, dual, Below}
-use Rattle.model.specs.Formula.{Env as Environment}
 use Rattle.logic.specs.Meaning.{Holds}
 use Rattle.logic.proofs.Compare.{Stand}
 use Rattle.logic.proofs.Test.{test}
@@ -37,7 +36,6 @@ use Rattle.format.specs.declared.question.Question.{Question}
 use Rattle.format.specs.declared.question.Answer.{Answer}
 use Rattle.format.specs.declared.question.Answer.the-variants as Qu
 use Rattle.format.proofs.ReadableLaws.{of-setup, of-image, sizes, readable, ruled, tree-below, goal-below, start-below}
-use Rattle.verdict.specs.Environment.{envOf}
 use Rattle.verdict.specs.Decoding.{Decoded}
 use Rattle.verdict.specs.Evaluation.{Ready, truthOf}
 use Rattle.verdict.specs.Verdict.{started, Answered, goalTest}

@@ -5,13 +5,13 @@
 --     in-named, in-other             a term in a set, at each stage of the bound variable
 --     column-atom, row-atom, set-atom
 --                                    an atom at each stage of the bound variable: by column, by row, by the predicate's one set
+--     column-turn                    a turn of the loop over a column
 --
 -- Assumes nothing.
-use Prim.Native.Nat.{ℕ, _+_, _≤_, _<_}
+use Prim.Native.Nat.{ℕ, _+_, _<_}
 use mathlib.Core.Path.{_≡_, sym, ap, ap₂, _∙_}
 use mathlib.Core.Bool.{Bool}
 use mathlib.Core.List.{List}
-use lib.Dec.{eqb}
 use borrow.Author.Tests.{eq-eqb, ne-eqb}
 use Rattle.model.specs.Decides.{Decides}
 use Rattle.model.specs.Formula.{Term, stage, variable, pick, bind, value, atom, Names}

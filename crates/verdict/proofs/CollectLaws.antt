@@ -3,8 +3,9 @@
 --
 --     member-is                                  a test of membership is `member`
 --     collects-as, collects-by                   a test that is the same below n; a set that the crate `modal` worked out
---     collects-all, collects-none                every stage, and none
---     collects-both, collects-either, collects-lacks
+--     collects-all, collects-none, computes-none every stage, and none
+--     collects-both, collects-either, collects-lacks, collects-clip
+--                                                in both sets, in either, in none, and what a set has below n
 --     collects-start, collects-take, collects-skip, collects-end
 --     collects-once                              one set collects a test
 --
@@ -24,7 +25,7 @@ use Rattle.logic.proofs.Test.{Stages}
 use Rattle.sets.specs.Member.{bit, Has, Within}
 use Rattle.sets.specs.Number.{single, width}
 use Rattle.sets.proofs.LawsMember.{same?, has-test, has-and, has-with, within-antisym}
-use Rattle.modal.specs.Row.{member, Row, Inside, Computes}
+use Rattle.modal.specs.Row.{member, Row, Computes}
 use Rattle.modal.proofs.LawsMember.{member-says, member-or, member-and, member-minus, member-none, member-all}
 use Rattle.modal.proofs.LawsMember.{below, inside-or, inside-left, inside-minus, inside-all}
 use Rattle.verdict.specs.Kinds.{always}

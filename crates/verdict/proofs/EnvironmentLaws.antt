@@ -17,7 +17,7 @@ use lib.ListN.{length, getD, set, List·getD-eq-default}
 use lib.Seq.{getD-set-same, getD-set-other}
 use lib.Dec.{eqb}
 use borrow.Author.Tests.{eq-eqb, ne-eqb}
-use Rattle.model.specs.Formula.{Term, stage, variable, pick, bind, value, Names}
+use Rattle.model.specs.Formula.{stage, variable, pick, value, Names}
 use Rattle.model.specs.Formula.{Env as Environment}
 use Rattle.sets.proofs.LawsMember.{same?}
 use Rattle.format.specs.Table.{termOf}

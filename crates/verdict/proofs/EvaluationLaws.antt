@@ -1,26 +1,26 @@
 -- The evaluation of an entry: what each arm of the code gives is what the test of the entry's formula says.
 --
---     ready-lower, ready-bound                                what an evaluation goes by, at an operand and under a binding
+--     ready-lower, ready-bound, ready-rule                    what an evaluation goes by, at a lower entry and under a binding
+--     junction-first, junction-second, unary-operand, binary-first, binary-second
+--                                                             so that it can go on to an operand
 --     constant-arm, literal-arm, junction-arm, unary-arm, binary-arm, none-arm
 --                                                             the stages at which a formula holds, by the row of its kind
+--     unary-here, binary-here                                 a modality holds where it does from the stage of its term
 --     unary-set, binary-set, no-set                           the stages from which a modality holds
---     once-arm, each-turn                                     a modality at each stage of x: worked out once, or for each
+--     from-set, each-turn, once-arm                           a modality at its term: by its set, worked out for each stage of x, or once
 --
 -- Assumes nothing.
 use Prim.Native.Nat.{ℕ, _≤_, _<_}
 use native.Mathlib.Omega.{arith}
-use mathlib.Core.Path.{_≡_, refl, sym, ap, ap₂, _∙_, subst}
+use mathlib.Core.Path.{_≡_, sym, ap, _∙_, subst}
 use mathlib.Core.Bool.{Bool, true, false}
 use mathlib.Core.List.{List}
-use lib.Bits.{bitAnd, bitOr}
 use Rattle.model.specs.Decides.{Decides}
-use Rattle.model.specs.Graph.{Graph}
-use Rattle.model.specs.Formula.{Formula, bind, value, atom}
+use Rattle.model.specs.Formula.{bind, value, atom}
 use Rattle.model.specs.Formula.{Env as Environment}
 use Rattle.logic.proofs.Compare.{Stand, bind-stands}
 use Rattle.logic.proofs.Test.{Stages, test}
 use Rattle.sets.specs.Member.{Has}
-use Rattle.sets.specs.Number.{width}
 use Rattle.modal.specs.Row.{member, Computes}
 use Rattle.format.specs.Image.{stagesOf, graphOf}
 use Rattle.format.specs.Table.{IsTerm, a-stage, a-variable, recordAt, kindOf, sortOf, RuledAs, Ruled, termOf, atomOf, treeOf}

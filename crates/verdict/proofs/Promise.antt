@@ -13,7 +13,7 @@ use Prim.Native.Nat.{ℕ, _≤_, _<_}
 use native.Mathlib.Omega.{arith}
 use mathlib.Core.Path.{_≡_, refl, sym, ap, _∙_, subst}
 use mathlib.Core.List.{List}
-use mathlib.Core.Logic.{_↔_, Iff·trans, Iff·symm, ⊎-elim}
+use mathlib.Core.Logic.{_↔_, Iff·trans, ⊎-elim}
 use lib.Dec.{lit<}
 use lib.ListN.{length}
 use lib.Seq.{ext-getD}

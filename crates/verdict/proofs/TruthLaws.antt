@@ -11,7 +11,7 @@ use lib.Dec.{T}
 use Rattle.model.specs.Formula.{atom}
 use Rattle.logic.proofs.Test.{test}
 use Rattle.format.specs.Image.{graphOf}
-use Rattle.format.specs.Table.{kindOf, atomOf, treeOf}
+use Rattle.format.specs.Table.{kindOf}
 use Rattle.format.specs.declared.record.Record.{Record}
 use Rattle.format.specs.declared.record.Sort.the-variants as S
 use Rattle.format.proofs.TreeLaws.{Row}

@@ -8,7 +8,7 @@ use Rattle.modal.specs.Row.{member}
 use Rattle.format.specs.declared.record.Kind.{Kind}
 use Rattle.format.specs.declared.record.Kind.the-variants as K
 
--- The first kind of each row of document 01's table of kinds; the other is its dual.
+-- The first kind of each pair of duals, as document 01 lists them: true/false, P/not P, and/or, AX/EX, AF/EG and AR/EU.
 abbrev pub isFirst : Kind → Bool
 isFirst K.True = true
 isFirst K.False = false

@@ -12,7 +12,7 @@ ghost use Rattle.sets.specs.Number.{number, width};
 ghost use Rattle.verdict.specs.Evaluation.{Collects, atomOver, atomAt, literalAt, termIn, column};
 
 // Whether a record's atom is true.
-pub fn atom_holds(image: &[u8], r: Record, env: Env) -> bool
+pub(crate) fn atom_holds(image: &[u8], r: Record, env: Env) -> bool
     ensures { λ b. ⌜ b ≡ atomOver (now (image .entry)) r env ⌝ }
 {
     let first = image::first_set(image, r.a);
@@ -26,7 +26,7 @@ pub fn atom_holds(image: &[u8], r: Record, env: Env) -> bool
 }
 
 // The stages s below n for which a term stands in the set, with variable x at s: those of the set where the term names x, else all or none.
-pub fn where_in(n: usize, set: Set, t: u8, env: Env, x: u8) -> Set
+pub(crate) fn where_in(n: usize, set: Set, t: u8, env: Env, x: u8) -> Set
     requires { ⌜ n ≤ width ⌝ }
     ensures { λ r. ⌜ Collects n (termIn (number set) t env x) (number r) ⌝ }
 {
@@ -71,7 +71,7 @@ fn where_atom(image: &[u8], n: usize, r: Record, env: Env, x: u8) -> Set
 }
 
 // The same of the atom, where `plain`, or else of its negation.
-pub fn where_literal(image: &[u8], n: usize, r: Record, plain: bool, env: Env, x: u8) -> Set
+pub(crate) fn where_literal(image: &[u8], n: usize, r: Record, plain: bool, env: Env, x: u8) -> Set
     requires { ⌜ (n ≤ width) × (x < 4) ⌝ }
     ensures { λ s. ⌜ Collects n (literalAt (now (image .entry)) r plain env x) (number s) ⌝ }
 {

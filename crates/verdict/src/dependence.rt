@@ -21,7 +21,7 @@ fn free_under(image: &[u8], table: &[u8], o: u8, y: u8, x: u8) -> bool
 }
 
 // Whether x is free in an operand of a modality, under the operand's own binding.
-pub fn depends(image: &[u8], table: &[u8], e: u8, x: u8) -> bool
+pub(crate) fn depends(image: &[u8], table: &[u8], e: u8, x: u8) -> bool
     requires { ⌜ Ruled (now image) e (recordAt (now table) e) × (x < 4) ⌝ }
     ensures { λ r. ⌜ Decides r (Inner x (treeOf (now (image .entry)) (now (table .entry)) e)) ⌝ }
 {

@@ -8,8 +8,8 @@ ghost use Rattle.modal.specs.Row.{Computes};
 ghost use Rattle.verdict.specs.Kinds.{isFirst, joinedNumber, always, modalOn};
 ghost use Rattle.verdict.specs.Evaluation.{Collects};
 
-// Whether a kind is the first of its row of the table of kinds: true, and not false; P, and not "not P"; and, and not or.
-pub fn is_first(kind: Kind) -> bool
+// Whether a kind is the first of its pair of duals: true/false, P/not P, and/or, AX/EX, AF/EG, AR/EU.
+pub(crate) fn is_first(kind: Kind) -> bool
     ensures { λ r. ⌜ r ≡ isFirst kind ⌝ }
 {
     match kind {
@@ -30,7 +30,7 @@ pub fn is_first(kind: Kind) -> bool
 }
 
 // Every stage below n, or none.
-pub fn all_or_none(n: usize, all: bool) -> Set
+pub(crate) fn all_or_none(n: usize, all: bool) -> Set
     requires { ⌜ n ≤ width ⌝ }
     ensures { λ r. ⌜ Collects n (always all) (number r) ⌝ }
 {
@@ -38,7 +38,7 @@ pub fn all_or_none(n: usize, all: bool) -> Set
 }
 
 // The stages of both sets for "and", those of either for "or".
-pub fn joined(first: bool, a: Set, b: Set) -> Set
+pub(crate) fn joined(first: bool, a: Set, b: Set) -> Set
     ensures { λ r. ⌜ number r ≡ joinedNumber first (number a) (number b) ⌝ }
 {
     if first {
@@ -49,7 +49,7 @@ pub fn joined(first: bool, a: Set, b: Set) -> Set
 }
 
 // The stages below n from which a modality holds, from the stages at which its operands hold; none where the kind is no modality.
-pub fn modal_of(next: &[u64], n: usize, kind: Kind, a: Set, b: Set) -> Set
+pub(crate) fn modal_of(next: &[u64], n: usize, kind: Kind, a: Set, b: Set) -> Set
     ensures { λ r. ⌜ Computes (now (next .entry)) n (modalOn kind (number a) (number b)) (number r) ⌝ }
 {
     let none = sets::empty();

@@ -62,7 +62,7 @@ fn goal_holds(image: &[u8], table: &[u8], q: Question) -> bool
     truth::holds(image, table, &next, n, q.goal, env)
 }
 
-// The verdict for callers in C, as one number: `answer::code` says which.
+// The verdict for callers in C, as one number: a refusal's own, 128 for yes, 129 for no.
 #[no_mangle]
 pub extern "C" fn zseq_verdict(image: &[u8], table: &[u8], goal: u64, start: u64) -> u64
     ensures { λ r. ⌜ CodedAnswer (now (image .entry)) (now (table .entry)) goal start r ⌝ }

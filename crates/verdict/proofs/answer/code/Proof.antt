@@ -1,5 +1,4 @@
 -- `verdict::answer::code` meets its contract: in each arm the answer is that arm's variant, at which `coded` computes.
-use mathlib.Core.Path.{_∙_}
 use borrow.Author.Needs.{needs}
 use Rattle.verdict.proofs.answer.code.Statement.{statement}
 use Rattle.verdict.proofs.answer.code.Tie as tie
