@@ -1,132 +1,127 @@
 /*
  * Answers a file of cases with the linked library: answers CASES ANSWERS.
  *
- * The files' forms are in reference/README.md. Each input is lent so that its last byte lies against a page that cannot be read, and for
- * every second case so that its first byte does: an access outside ends the program. Exit status 0 when every case was answered, 2 when a
- * file cannot be read or written, or is not of its form.
+ * Each case is asked twice: with every input and buffer lent so that its last byte lies against a page that can be neither read nor
+ * written, and so that its first byte does. So an access outside ends the program. Both answers must be the same, no byte of an input may
+ * change, nor a byte of a buffer that is to be kept.
+ *
+ * Exit status 0 when every case was answered, 1 when the library did otherwise, and 2 when a file cannot be read or written, or is not of
+ * its form. An access outside ends it by a signal.
  */
-#include "../include/zseq.h"
+#include "answers.h"
 
-#include <stdio.h>
 #include <stdlib.h>
 #include <string.h>
 #include <sys/mman.h>
 #include <unistd.h>
 
-enum { VERDICT = 1 };
+enum { MOST = 1 << 20, FILL = 0xAA };
 
-static void fail(const char *what)
+/* The number of the case in hand. */
+static size_t in_hand;
+
+void must(int holds, const char *otherwise)
 {
-    fprintf(stderr, "answers: %s\n", what);
-    exit(2);
+    if (!holds) {
+        fprintf(stderr, "answers: case %zu: %s\n", in_hand, otherwise);
+        exit(1);
+    }
 }
 
 /* A stretch of memory with an unreadable page on either side. */
-struct lent {
+struct stretch {
     uint8_t *inside;
     size_t room;
 };
 
-static struct lent lend(size_t room)
+static struct stretch image_room, table_room, certificate_room, buffer_room;
+
+static struct stretch stretch(void)
 {
     size_t page = (size_t)sysconf(_SC_PAGESIZE);
-    size_t whole = (room + page - 1) / page * page;
-    uint8_t *at = mmap(NULL, whole + 2 * page, PROT_NONE, MAP_PRIVATE | MAP_ANONYMOUS, -1, 0);
-    if (at == MAP_FAILED || mprotect(at + page, whole, PROT_READ | PROT_WRITE) != 0)
-        fail("no memory");
-    return (struct lent){at + page, whole};
+    size_t room = (MOST + page - 1) / page * page;
+    uint8_t *at = mmap(NULL, room + 2 * page, PROT_NONE, MAP_PRIVATE | MAP_ANONYMOUS, -1, 0);
+    if (at == MAP_FAILED || mprotect(at + page, room, PROT_READ | PROT_WRITE) != 0)
+        fail("answers: no memory");
+    return (struct stretch){at + page, room};
 }
 
-/* Puts bytes at the end of the stretch, or at its start. */
-static const uint8_t *put(struct lent to, const uint8_t *bytes, size_t len, int at_start)
+static uint8_t *part(struct stretch of, size_t len, enum place place)
 {
-    uint8_t *at;
-    if (len > to.room)
-        fail("an input is longer than a case may be");
-    at = at_start ? to.inside : to.inside + to.room - len;
-    memcpy(at, bytes, len);
+    if (len > of.room)
+        fail("answers: a case has more bytes than can be lent");
+    return place == AT_START ? of.inside : of.inside + of.room - len;
+}
+
+static struct bytes lend(struct stretch to, struct bytes input, enum place place)
+{
+    uint8_t *at = part(to, input.len, place);
+    memcpy(at, input.at, input.len);
+    return (struct bytes){at, input.len};
+}
+
+uint8_t *lend_buffer(size_t len, enum place place)
+{
+    uint8_t *at = part(buffer_room, len, place);
+    memset(at, FILL, len);
     return at;
 }
 
-static uint8_t *whole_file(const char *name, size_t *len)
+int kept(const uint8_t *bytes, size_t len)
 {
-    FILE *f = fopen(name, "rb");
-    long size;
-    uint8_t *bytes;
-    if (f == NULL || fseek(f, 0, SEEK_END) != 0 || (size = ftell(f)) < 0 || fseek(f, 0, SEEK_SET) != 0)
-        fail("cannot read the cases");
-    bytes = malloc((size_t)size + 1);
-    if (bytes == NULL || fread(bytes, 1, (size_t)size, f) != (size_t)size)
-        fail("cannot read the cases");
-    fclose(f);
-    *len = (size_t)size;
-    return bytes;
+    size_t i;
+    for (i = 0; i < len; i++)
+        if (bytes[i] != FILL)
+            return 0;
+    return 1;
 }
 
-/* A place in the cases, and big-endian numbers read from it. */
-struct cursor {
-    const uint8_t *at;
-    const uint8_t *end;
-};
-
-static uint64_t number(struct cursor *c, int bytes)
+static int same(struct bytes left, struct bytes right)
 {
-    uint64_t n = 0;
-    if (c->end - c->at < bytes)
-        fail("a case is cut short");
-    while (bytes-- > 0)
-        n = n << 8 | *c->at++;
-    return n;
+    return left.len == right.len && memcmp(left.at, right.at, left.len) == 0;
 }
 
-static const uint8_t *blob(struct cursor *c, size_t *len)
+/* Lends the inputs of a case, asks, and looks at the inputs again. */
+static struct answer asked_at(const struct asked *asked, enum place place)
 {
-    const uint8_t *at;
-    *len = (size_t)number(c, 4);
-    if ((size_t)(c->end - c->at) < *len)
-        fail("a case is cut short");
-    at = c->at;
-    c->at += *len;
-    return at;
+    struct asked lent = *asked;
+    struct answer answer;
+    lent.image = lend(image_room, asked->image, place);
+    lent.table = lend(table_room, asked->table, place);
+    lent.certificate = lend(certificate_room, asked->certificate, place);
+    answer = ask(&lent, place);
+    must(same(lent.image, asked->image) && same(lent.table, asked->table) && same(lent.certificate, asked->certificate), "an input was written");
+    return answer;
 }
 
-static void write_number(FILE *out, uint64_t n, int bytes)
+/* The answer of both calls. */
+static struct answer asked_twice(const struct asked *asked)
 {
-    while (bytes-- > 0)
-        putc((int)(n >> (8 * bytes) & 255), out);
+    static uint8_t first_bytes[MOST + 8];
+    struct answer first = asked_at(asked, AT_END), second;
+    if (first.bytes.len > sizeof first_bytes)
+        fail("answers: an answer has more bytes than can be held");
+    memcpy(first_bytes, first.bytes.at, first.bytes.len);
+    first.bytes.at = first_bytes;
+    second = asked_at(asked, AT_START);
+    must(first.result == second.result && same(first.bytes, second.bytes), "asked twice, it was answered in two ways");
+    return first;
 }
 
 int main(int argc, char **argv)
 {
-    enum { MOST = 1 << 20 };
-    struct lent image_room = lend(MOST), table_room = lend(MOST);
-    struct cursor c;
-    size_t len, case_number = 0;
-    FILE *out;
+    struct files files;
+    struct asked asked;
     if (argc != 3)
         fail("usage: answers CASES ANSWERS");
-    c.at = whole_file(argv[1], &len);
-    c.end = c.at + len;
-    out = fopen(argv[2], "wb");
-    if (out == NULL)
-        fail("cannot write the answers");
-    while (c.at < c.end) {
-        uint64_t service = number(&c, 1), goal = number(&c, 8), start = number(&c, 8);
-        size_t image_len, table_len, certificate_len;
-        const uint8_t *image, *table;
-        int at_start = (int)(case_number++ & 1);
-        (void)number(&c, 8);
-        image = blob(&c, &image_len);
-        table = blob(&c, &table_len);
-        (void)blob(&c, &certificate_len);
-        if (service != VERDICT)
-            fail("a case asks for a service that is not linked");
-        image = put(image_room, image, image_len, at_start);
-        table = put(table_room, table, table_len, at_start);
-        write_number(out, zseq_verdict(image, image_len, table, table_len, goal, start), 8);
-        write_number(out, 0, 4);
-    }
-    if (fclose(out) != 0)
-        fail("cannot write the answers");
+    files = open_files(argv[1], argv[2]);
+    image_room = stretch();
+    table_room = stretch();
+    certificate_room = stretch();
+    buffer_room = stretch();
+    for (in_hand = 0; next_case(&files, service, &asked); in_hand++)
+        write_answer(&files, asked_twice(&asked));
+    close_files(&files);
+    printf("%zu cases answered, each with its inputs against unreadable pages, once at their ends and once at their fronts\n", files.taken);
     return 0;
 }

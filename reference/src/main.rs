@@ -9,6 +9,7 @@ use std::process::exit;
 
 const USAGE: &str = "reference make KIND SEED COUNT FILE
 reference judge KIND CASES ANSWERS
+reference judge-any KIND CASES ANSWERS
 reference self KIND CASES ANSWERS
 reference answer HEXIMAGE HEXTABLE GOAL START [HEXCERTIFICATE]
 KIND is verdict, check, write, dead, program or read";
@@ -18,7 +19,8 @@ fn main() {
     let words: Vec<&str> = arguments.iter().map(String::as_str).collect();
     let result = match words.as_slice() {
         ["make", kind, seed, count, file] => make_cases(kind, seed, count, file),
-        ["judge", kind, case_file, answer_file] => judge_answers(kind, case_file, answer_file),
+        ["judge", kind, case_file, answer_file] => judge_answers(judge::judge, kind, case_file, answer_file),
+        ["judge-any", kind, case_file, answer_file] => judge_answers(judge::judge_any, kind, case_file, answer_file),
         ["self", kind, case_file, answer_file] => own_answers(kind, case_file, answer_file),
         ["answer", image, table, goal, start] => by_hand(image, table, goal, start, None),
         ["answer", image, table, goal, start, certificate] => by_hand(image, table, goal, start, Some(certificate)),
@@ -60,8 +62,10 @@ fn make_cases(kind: &str, seed: &str, count: &str, file: &str) -> Result<bool, S
     save(file, &bytes)
 }
 
-fn judge_answers(kind: &str, case_file: &str, answer_file: &str) -> Result<bool, String> {
-    judge::judge(kind_of(kind)?, kind, &load(case_file)?, &load(answer_file)?)
+type Judge = fn(Kind, &str, &[u8], &[u8]) -> Result<bool, String>;
+
+fn judge_answers(judge: Judge, kind: &str, case_file: &str, answer_file: &str) -> Result<bool, String> {
+    judge(kind_of(kind)?, kind, &load(case_file)?, &load(answer_file)?)
 }
 
 /// This program's own answers, to try the judging itself.

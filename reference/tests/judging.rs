@@ -1,7 +1,7 @@
 //! The making of cases and the judging of answers.
 
 use reference::cases::{read_answers, read_cases, Answer, Case};
-use reference::judge::judge;
+use reference::judge::{judge, judge_any};
 use reference::make::{make, Kind, KINDS};
 use reference::services;
 
@@ -62,4 +62,24 @@ fn too_few_cases_do_not_pass() {
     let cases = make(Kind::Verdict, 1, 50);
     let answers: Vec<Answer> = cases.iter().map(services::answer).collect();
     assert_eq!(judge(Kind::Verdict, "verdict", &stored(&cases), &stored_answers(&answers)), Ok(false));
+}
+
+/// Cases of any content are judged: a few of them will do, and a wrong answer among them is found.
+#[test]
+fn cases_from_elsewhere_are_judged() {
+    let strange = |length: usize| (0..length).map(|place| (37 * place) as u8).collect::<Vec<u8>>();
+    for (name, kind) in KINDS {
+        let mut cases = make(kind, 1, 40);
+        for (number, case) in cases.iter_mut().enumerate() {
+            case.goal ^= 1 << number;
+            case.start = u64::MAX - case.start;
+            case.image.truncate(20 * number);
+            case.table.extend(strange(number));
+            case.certificate = strange(number * number);
+        }
+        let mut answers: Vec<Answer> = cases.iter().map(services::answer).collect();
+        assert_eq!(judge_any(kind, name, &stored(&cases), &stored_answers(&answers)), Ok(true), "{name}");
+        answers[20].result ^= 1;
+        assert_eq!(judge_any(kind, name, &stored(&cases), &stored_answers(&answers)), Ok(false), "{name}");
+    }
 }

@@ -1,12 +1,12 @@
 -- Which refusal is given: one at most, and none where no condition holds; conditions of one service after those of another; and document
 -- 01's numbers tell the refusals apart.
-use Prim.Native.Nat.{ℕ}
+use Prim.Native.Nat.{ℕ, _<_}
 use mathlib.Core.Path.{_≡_, refl, ap, sym, _∙_}
 use mathlib.Core.List.{List, [], _∷_, _++_}
 use mathlib.Core.Bool.{Bool, true, false}
 use mathlib.Core.Logic.{_⊎_, inl, inr}
 use native.Mathlib.Omega.{arith}
-use lib.Dec.{ltb}
+use lib.Dec.{ltb, lit<}
 use lib.ListN.{getD}
 use Rattle.format.specs.Refusal.{number, Condition, Given, Clear}
 use Rattle.format.specs.declared.Refusal.{Refusal}
@@ -92,6 +92,31 @@ numbered R.BytesRemain = refl
 -- Two refusals with one number are one.
 pub number-injective : (j k : Refusal) → number j ≡ number k → j ≡ k
 number-injective j k e = sym (numbered j) ∙ ap refusalOf e ∙ numbered k
+
+-- Every number is below 128, where the codes of answers begin.
+pub number-small : (k : Refusal) → number k < 128
+number-small R.ImageStart = lit< tt
+number-small R.ImageSizes = lit< tt
+number-small R.ImageLength = lit< tt
+number-small R.BitTooHigh = lit< tt
+number-small R.NoSuccessor = lit< tt
+number-small R.TableStart = lit< tt
+number-small R.TableLength = lit< tt
+number-small R.BadRecord = lit< tt
+number-small R.OperandTwice = lit< tt
+number-small R.NestedTooDeep = lit< tt
+number-small R.NoSuchGoal = lit< tt
+number-small R.NoSuchStart = lit< tt
+number-small R.FreeVariable = lit< tt
+number-small R.BufferTooShort = lit< tt
+number-small R.NothingFires = lit< tt
+number-small R.NotOfShape = lit< tt
+number-small R.CertificateStart = lit< tt
+number-small R.OtherQuestion = lit< tt
+number-small R.ByteMissing = lit< tt
+number-small R.WrongCode = lit< tt
+number-small R.ConditionFails = lit< tt
+number-small R.BytesRemain = lit< tt
 
 -- No refusal has the number 0.
 abbrev some-refusal : ℕ → Bool

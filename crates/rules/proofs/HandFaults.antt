@@ -193,8 +193,8 @@ module _ {room : ℕ} {G : Graph} (R : Readable G) (small : G .stages ≤ room) 
         within r next st i =
             let go = ready G (h .walk) (h .stage) (shapeOf G h .holds) r (st .successor) (st .condition) in
             let c = reached G (shapeOf G h .holds) (λ t. entrySteps G (shapeOf G h .a t)) (λ t. entrySteps G (shapeOf G h .b t)) (shapeOf G h .kind)
-              (h .walk) (h .stage) bytes (Breaks R (lawful h n l) v u) (body r .premises) go next
-              (in-premises R (lawful h n l) v u (body r .premises) go next i) in
+            (h .walk) (h .stage) bytes (Breaks R (lawful h n l) v u) (body r .premises) go next
+            (in-premises R (lawful h n l) v u (body r .premises) go next i) in
             onward r next st (partAt G h (c .0) (c .1) (c .2)) (c .5 (λ q t m. partAt G h q t m ≡ partAt G h (c .0) (c .1) (c .2)) refl)
             (told (c .0) (c .1) (c .2) (c .3) (c .4))
 
@@ -284,7 +284,7 @@ module _ {room : ℕ} {G : Graph} (R : Readable G) (small : G .stages ≤ room) 
     premise-read h g r next st x so (suc n) l =
         let go = ready G (h .walk) (h .stage) (shapeOf G h .holds) r (st .successor) (st .condition) in
         let c = reached G (shapeOf G h .holds) (λ t. entrySteps G (shapeOf G h .a t)) (λ t. entrySteps G (shapeOf G h .b t)) (shapeOf G h .kind)
-          (h .walk) (h .stage) bytes (λ q t m. partAt G h q t m ≡ g) (body r .premises) go next x in
+        (h .walk) (h .stage) bytes (λ q t m. partAt G h q t m ≡ g) (body r .premises) go next x in
         let k = part-read h n l (c .0) (c .1) (c .2) (c .3) in
         let i = c .5 (Breaks R (lawful h n l) v u) (k .2 ∙ subst (ReadSo v) (sym (c .4)) so (k .0) (k .1)) in
         ⊎-elim (λ s. s .1 ∙ premises-in R (lawful h n l) v u (body r .premises) go next i) (λ s. absurd (s .0 st))

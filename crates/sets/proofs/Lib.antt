@@ -7,3 +7,4 @@ pub mod LawsCount
 pub mod LawsLowest
 pub mod LawsWalk
 pub mod LawsRow
+pub mod LawsStored

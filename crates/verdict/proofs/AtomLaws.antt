@@ -1,7 +1,6 @@
 -- Atoms: when one is true, by its predicate's sets, and terms under a binding.
 --
 --     value-named, value-other       the stage of a term that names the bound variable, and of one that does not
---     atom-two-is, atom-one-is       an atom, as membership in one of its predicate's sets
 --     in-named, in-other             a term in a set, at each stage of the bound variable
 --     column-atom, row-atom, set-atom
 --                                    an atom at each stage of the bound variable: by column, by row, by the predicate's one set
@@ -22,11 +21,12 @@ use Rattle.format.specs.Image.{arityOf, firstSet, setOf, graphOf}
 use Rattle.format.specs.Table.{termOf, atomOf}
 use Rattle.format.specs.declared.record.Record.{Record}
 use Rattle.format.proofs.TreeLaws.{atom-one, atom-two}
-use Rattle.verdict.specs.Environment.{envOf, Bound}
+use Rattle.hand.specs.Environment.{envOf, Bound}
 use Rattle.verdict.specs.Kinds.{always}
 use Rattle.verdict.specs.Evaluation.{Collects, atomAt, termIn, column}
-use Rattle.verdict.specs.declared.env.Env.{Env}
-use Rattle.verdict.proofs.CollectLaws.{member-is, collects-as}
+use Rattle.hand.specs.declared.env.Env.{Env}
+use Rattle.hand.proofs.HandLaws.{member-is}
+use Rattle.verdict.proofs.CollectLaws.{collects-as}
 
 -- ---- terms under a binding
 
@@ -55,16 +55,6 @@ module _ (image : List ℕ) (r : Record) (c : Environment) {first : ℕ} (f : fi
       → atom (graphOf image) c (atomOf image r) ≡ member (setOf image first) (value c (termOf (r .t)))
   atom-by-one n =
       ap (atom (graphOf image) c) (atom-one image r n) ∙ ap (λ (i : ℕ). member (setOf image i) (value c (termOf (r .t)))) (sym f)
-
-  -- So the test of membership says whether the atom is true.
-  pub atom-two-is : {t u set : ℕ} {b : Bool} → arityOf image (r .a) ≡ 2 → t ≡ value c (termOf (r .t)) → u ≡ value c (termOf (r .b))
-      → set ≡ setOf image (first + t) → Decides b (Has set u) → b ≡ atom (graphOf image) c (atomOf image r)
-  atom-two-is {u = u} {set = set} {b = b} e t-is u-is set-is d =
-      member-is set u b d ∙ ap₂ member (set-is ∙ ap (λ (k : ℕ). setOf image (first + k)) t-is) u-is ∙ sym (atom-by-two e)
-
-  pub atom-one-is : {t set : ℕ} {b : Bool} → (arityOf image (r .a) ≡ 2 → ⊥) → t ≡ value c (termOf (r .t))
-      → set ≡ setOf image first → Decides b (Has set t) → b ≡ atom (graphOf image) c (atomOf image r)
-  atom-one-is {t} {set} {b} n t-is set-is d = member-is set t b d ∙ ap₂ member set-is t-is ∙ sym (atom-by-one n)
 
 -- ---- at each stage of the bound variable
 

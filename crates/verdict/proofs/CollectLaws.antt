@@ -1,7 +1,6 @@
 -- Sets of stages that pass a test (`Collects`): those that the operations of the crate `sets` make, and a set that a loop fills stage by
 -- stage. A law takes what the contract of an operation says of the number that it gives.
 --
---     member-is                                  a test of membership is `member`
 --     collects-as, collects-by                   a test that is the same below n; a set that the crate `modal` worked out
 --     collects-all, collects-none, computes-none every stage, and none
 --     collects-both, collects-either, collects-lacks, collects-clip
@@ -30,11 +29,6 @@ use Rattle.modal.proofs.LawsMember.{member-says, member-or, member-and, member-
 use Rattle.modal.proofs.LawsMember.{below, inside-or, inside-left, inside-minus, inside-all}
 use Rattle.verdict.specs.Kinds.{always}
 use Rattle.verdict.specs.Evaluation.{Collects}
-
--- What a test of membership gives is `member`.
-pub member-is : (s k : ℕ) (r : Bool) → Decides r (Has s k) → r ≡ member s k
-member-is s k true d = sym (eq-eqb (bit s k) 1 d)
-member-is s k false d = sym (ne-eqb (bit s k) 1 d)
 
 -- What collects one test collects any that is the same below n.
 pub collects-as : {n r : ℕ} {op op′ : Stages} → ((s : ℕ) → s < n → op s ≡ op′ s) → Collects n op r → Collects n op′ r

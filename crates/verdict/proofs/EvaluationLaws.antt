@@ -29,13 +29,14 @@ use Rattle.format.specs.declared.record.Kind.{Kind}
 use Rattle.format.specs.declared.record.Sort.{Sort}
 use Rattle.format.specs.declared.record.Sort.the-variants as S
 use Rattle.format.proofs.TreeLaws.{Row}
-use Rattle.verdict.specs.Environment.{envOf, Bound}
+use Rattle.hand.specs.Environment.{envOf, Bound}
 use Rattle.verdict.specs.Kinds.{isFirst, literal, joined, joinedNumber, always, modal, modalOn}
 use Rattle.verdict.specs.Modality.{atStage, Inner}
 use Rattle.verdict.specs.Evaluation.{Collects, Ready, heldAt, heldFrom, fromTerm, modalAt, literalAt, termIn}
-use Rattle.verdict.specs.declared.env.Env.{Env}
-use Rattle.verdict.proofs.EnvironmentLaws.{stage-value, variable-value}
-use Rattle.verdict.proofs.CollectLaws.{member-is, collects-as, collects-by, collects-none, collects-both, collects-either}
+use Rattle.hand.specs.declared.env.Env.{Env}
+use Rattle.hand.proofs.EnvironmentLaws.{stage-value, variable-value}
+use Rattle.hand.proofs.HandLaws.{member-is}
+use Rattle.verdict.proofs.CollectLaws.{collects-as, collects-by, collects-none, collects-both, collects-either}
 use Rattle.verdict.proofs.ModalityLaws.{inner-same, modal-agrees}
 use Rattle.verdict.proofs.EntryLaws.{rule-of, modalAs, modal-row, test-row}
 

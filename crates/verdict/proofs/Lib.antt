@@ -1,5 +1,4 @@
 -- The laws of the verdict, over plain values: each function's proof hands its facts to them.
-pub mod EnvironmentLaws
 pub mod CollectLaws
 pub mod AtomLaws
 pub mod DecodeLaws

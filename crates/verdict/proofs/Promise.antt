@@ -6,7 +6,7 @@
 --     yes-exactly, no-exactly, no-unless, refused-exactly
 --     yes-anywhere, no-anywhere                the same with the variables 1 to 3 at any stages
 --     coded-injective                          the coding for callers in C
---     set-once, bound-once, decoded-once       one result of the public functions below the verdict
+--     set-once, decoded-once                   one result of the public functions below the verdict
 --
 -- Assumes nothing.
 use Prim.Native.Nat.{ℕ, _≤_, _<_}
@@ -14,7 +14,6 @@ use native.Mathlib.Omega.{arith}
 use mathlib.Core.Path.{_≡_, refl, sym, ap, _∙_, subst}
 use mathlib.Core.List.{List}
 use mathlib.Core.Logic.{_↔_, Iff·trans, ⊎-elim}
-use lib.Dec.{lit<}
 use lib.ListN.{length}
 use lib.Seq.{ext-getD}
 use Rattle.model.specs.Formula.{Formula, Env, dual, Free}
@@ -27,19 +26,17 @@ use Rattle.sets.specs.Number.{number}
 use Rattle.sets.specs.Row.{held}
 use Rattle.sets.proofs.LawsMember.{side?}
 use Rattle.sets.proofs.LawsRow.{set-same, room-enough}
-use Rattle.format.specs.Refusal.{number as refusal, Given, Clear}
+use Rattle.format.specs.Refusal.{Given, Clear}
 use Rattle.format.specs.Image.{graphOf}
 use Rattle.format.specs.Table.{treeOf}
 use Rattle.format.specs.Question.{questionConditions}
 use Rattle.format.specs.declared.Refusal.{Refusal}
-use Rattle.format.specs.declared.Refusal.the-variants as R
-use Rattle.format.proofs.RefusalLaws.{given-one, clear-none, number-injective}
+use Rattle.format.proofs.RefusalLaws.{given-one, clear-none, number-injective, number-small}
 use Rattle.format.proofs.ReadableLaws.{only-zero}
-use Rattle.verdict.specs.Environment.{envOf, Bound}
+use Rattle.hand.specs.Environment.{started}
 use Rattle.verdict.specs.Decoding.{Decoded}
 use Rattle.verdict.specs.Evaluation.{Collects}
-use Rattle.verdict.specs.Verdict.{started, VerdictAnswer, coded, CodedAnswer}
-use Rattle.verdict.specs.declared.env.Env.{Env as Slots}
+use Rattle.verdict.specs.Verdict.{VerdictAnswer, coded, CodedAnswer}
 use Rattle.verdict.specs.declared.answer.Verdict.{Verdict}
 use Rattle.verdict.specs.declared.answer.Verdict.the-variants as Ve
 use Rattle.verdict.proofs.CollectLaws.{collects-once}
@@ -104,31 +101,6 @@ module _ (image table : List ℕ) (goal start : ℕ) where
 
 -- ---- the coding for callers in C
 
--- The number of a refusal is below those of yes and no.
-number-small : (k : Refusal) → refusal k < 128
-number-small R.ImageStart = lit< tt
-number-small R.ImageSizes = lit< tt
-number-small R.ImageLength = lit< tt
-number-small R.BitTooHigh = lit< tt
-number-small R.NoSuccessor = lit< tt
-number-small R.TableStart = lit< tt
-number-small R.TableLength = lit< tt
-number-small R.BadRecord = lit< tt
-number-small R.OperandTwice = lit< tt
-number-small R.NestedTooDeep = lit< tt
-number-small R.NoSuchGoal = lit< tt
-number-small R.NoSuchStart = lit< tt
-number-small R.FreeVariable = lit< tt
-number-small R.BufferTooShort = lit< tt
-number-small R.NothingFires = lit< tt
-number-small R.NotOfShape = lit< tt
-number-small R.CertificateStart = lit< tt
-number-small R.OtherQuestion = lit< tt
-number-small R.ByteMissing = lit< tt
-number-small R.WrongCode = lit< tt
-number-small R.ConditionFails = lit< tt
-number-small R.BytesRemain = lit< tt
-
 -- Two answers of one code are one: no refusal has the number 128 or 129.
 pub coded-injective : (r s : Verdict) → coded r ≡ coded s → r ≡ s
 coded-injective Ve.Yes Ve.Yes e = refl
@@ -151,15 +123,6 @@ code-once image table goal start m n p q =
 -- Two sets that collect one test are one set.
 pub set-once : {n : ℕ} {op : Stages} (r s : Set) → Collects n op (number r) → Collects n op (number s) → r ≡ s
 set-once r s c d = set-same r s (collects-once (number r) (number s) c d)
-
--- Two values of the four variables that one binding gives are one.
-pub bound-once : (env : Slots) (x s : ℕ) (a b : Slots) → length (a .slots) ≡ 4 → length (b .slots) ≡ 4 → Bound env x s a → Bound env x s b → a ≡ b
-unfolding envOf
-bound-once env x s a b la lb p q =
-    ⊎-elim (λ h. same (p .here h ∙ sym (q .here h))) (λ h. p .none h ∙ sym (q .none h)) (side? x 4)
-  where
-    same : envOf a ≡ envOf b → a ≡ b
-    same e = λ i. record { slots = ext-getD 0 (a .slots) (b .slots) (la ∙ sym lb) (λ v h. ap (λ (c : Env). c v) e) i }
 
 -- Two rows that an image is decoded to are one.
 pub decoded-once : (image : List ℕ) (n : ℕ) (row a b : List ℕ) → Decoded image n row a → Decoded image n row b → a ≡ b

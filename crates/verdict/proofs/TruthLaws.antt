@@ -15,10 +15,11 @@ use Rattle.format.specs.Table.{kindOf}
 use Rattle.format.specs.declared.record.Record.{Record}
 use Rattle.format.specs.declared.record.Sort.the-variants as S
 use Rattle.format.proofs.TreeLaws.{Row}
-use Rattle.verdict.specs.Environment.{envOf}
+use Rattle.hand.specs.Environment.{envOf}
+use Rattle.hand.specs.Hand.{atomIn}
 use Rattle.verdict.specs.Kinds.{isFirst, literal, joined}
-use Rattle.verdict.specs.Evaluation.{Ready, truthOf, modalOver, atomOver}
-use Rattle.verdict.specs.declared.env.Env.{Env}
+use Rattle.verdict.specs.Evaluation.{Ready, truthOf, modalOver}
+use Rattle.hand.specs.declared.env.Env.{Env}
 use Rattle.verdict.proofs.EntryLaws.{test-row}
 use Rattle.verdict.proofs.EvaluationLaws.{ready-rule, unary-here, binary-here}
 
@@ -46,7 +47,7 @@ module _ {image table next : List ℕ} {n e : ℕ} {env : Env} (ready : Ready im
   pub constant-truth : {first : Bool} → Row table e r S.Constant → first ≡ isFirst (kindOf (r .kind)) → first ≡ truthOf image table e env
   constant-truth row f = f ∙ sym (test-row image row (ready-rule ready) (graphOf image) (envOf env))
 
-  pub literal-truth : {first b : Bool} → Row table e r S.Atom → first ≡ isFirst (kindOf (r .kind)) → b ≡ atomOver image r env
+  pub literal-truth : {first b : Bool} → Row table e r S.Atom → first ≡ isFirst (kindOf (r .kind)) → b ≡ atomIn image r (envOf env)
       → Bool·beq b first ≡ truthOf image table e env
   literal-truth {first} {b} row f d = compared b first ∙ ap₂ literal f d ∙ sym (test-row image row (ready-rule ready) (graphOf image) (envOf env))
 

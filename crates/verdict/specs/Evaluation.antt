@@ -11,10 +11,10 @@ use Rattle.modal.specs.Row.{member, Row, Inside}
 use Rattle.format.specs.Image.{setOf, graphOf}
 use Rattle.format.specs.Table.{entriesOf, recordAt, Ruled, termOf, atomOf, treeOf}
 use Rattle.format.specs.declared.record.Record.{Record}
-use Rattle.verdict.specs.Environment.{envOf}
+use Rattle.hand.specs.Environment.{envOf}
 use Rattle.verdict.specs.Kinds.{literal}
 use Rattle.verdict.specs.Modality.{atStage}
-use Rattle.verdict.specs.declared.env.Env.{Env}
+use Rattle.hand.specs.declared.env.Env.{Env}
 
 -- r is the set of the stages below n that pass a test.
 pub record Collects (n : ℕ) (op : Stages) (r : ℕ) : Type 0 where
@@ -50,10 +50,7 @@ modalOver image table e env = fromTerm image table e (envOf env)
 abbrev pub modalAt : List ℕ → List ℕ → ℕ → Env → ℕ → Stages
 modalAt image table e env x = λ s. fromTerm image table e (bind (envOf env) x s)
 
--- Whether a record's atom is true, and the stages at which it is, or is not, with variable x there.
-abbrev pub atomOver : List ℕ → Record → Env → Bool
-atomOver image r env = atom (graphOf image) (envOf env) (atomOf image r)
-
+-- The stages at which a record's atom is true, or is not, with variable x there.
 abbrev pub atomAt : List ℕ → Record → Env → ℕ → Stages
 atomAt image r env x = λ s. atom (graphOf image) (bind (envOf env) x s) (atomOf image r)
 

@@ -1,5 +1,4 @@
--- The verdict: the four variables as one value, what evaluation gives, and what the services answer.
-pub mod Environment
+-- The verdict: what evaluation gives, and what the services answer.
 pub mod Decoding
 pub mod Kinds
 pub mod Modality

@@ -3,20 +3,16 @@ use Prim.Native.Nat.{ℕ}
 use mathlib.Core.Path.{_≡_}
 use mathlib.Core.Bool.{Bool}
 use mathlib.Core.List.{List}
-use lib.Dec.{eqb}
-use Rattle.model.specs.Formula.{Env, pick, dual}
+use Rattle.model.specs.Formula.{dual}
 use Rattle.logic.specs.Meaning.{Holds}
 use Rattle.logic.proofs.Test.{test}
 use Rattle.format.specs.Refusal.{number, Given, Clear}
 use Rattle.format.specs.Image.{graphOf}
 use Rattle.format.specs.Table.{treeOf}
 use Rattle.format.specs.Question.{questionConditions}
+use Rattle.hand.specs.Environment.{started}
 use Rattle.verdict.specs.declared.answer.Verdict.{Verdict}
 use Rattle.verdict.specs.declared.answer.Verdict.the-variants as Ve
-
--- Variable 0 at the start; the others, which may not be free in a goal, at stage 0.
-abbrev pub started : ℕ → Env
-started start = λ v. pick (eqb v 0) start 0
 
 -- A question that is not refused, and what is said of its goal.
 pub record Answered (image table : List ℕ) (goal start : ℕ) (holds : Type 0) : Type 0 where

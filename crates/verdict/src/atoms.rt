@@ -1,29 +1,14 @@
-// Atoms: as one truth value, and as a set of stages by operations on whole sets.
-use crate::env;
-use crate::env::Env;
+// Atoms as sets of stages, by operations on whole sets.
 use crate::kinds;
 use format::byte;
 use format::image;
 use format::record::Record;
+use hand::env;
+use hand::env::Env;
 use sets::Set;
-ghost use mathlib.Core.Path.{_≡_};
 ghost use Prim.Native.Nat.{_≤_, _<_};
 ghost use Rattle.sets.specs.Number.{number, width};
-ghost use Rattle.verdict.specs.Evaluation.{Collects, atomOver, atomAt, literalAt, termIn, column};
-
-// Whether a record's atom is true.
-pub(crate) fn atom_holds(image: &[u8], r: Record, env: Env) -> bool
-    ensures { λ b. ⌜ b ≡ atomOver (now (image .entry)) r env ⌝ }
-{
-    let first = image::first_set(image, r.a);
-    let t = env::stage_of(r.t, env) as usize;
-    if byte(image, 7 + r.a as usize) == 2 {
-        let b = env::stage_of(r.b, env) as usize;
-        sets::has(image::set(image, first + t), b)
-    } else {
-        sets::has(image::set(image, first), t)
-    }
-}
+ghost use Rattle.verdict.specs.Evaluation.{Collects, atomAt, literalAt, termIn, column};
 
 // The stages s below n for which a term stands in the set, with variable x at s: those of the set where the term names x, else all or none.
 pub(crate) fn where_in(n: usize, set: Set, t: u8, env: Env, x: u8) -> Set

@@ -1,11 +1,11 @@
 // The stages at which an entry's formula holds: recursion on the entry number, which falls at each operand.
 use crate::atoms;
 use crate::dependence;
-use crate::env;
-use crate::env::Env;
 use crate::kinds;
 use format::record;
 use format::record::Sort;
+use hand::env;
+use hand::env::Env;
 use sets::Set;
 ghost use Prim.Native.Nat.{_<_};
 ghost use Rattle.sets.specs.Number.{number};

@@ -15,16 +15,15 @@
 pub mod answer;
 mod atoms;
 mod dependence;
-pub mod env;
 pub mod evaluation;
 mod kinds;
 pub mod successors;
 pub mod truth;
 
 use answer::Verdict;
-use env::Env;
 use format::question;
 use format::question::Question;
+use hand::env::Env;
 ghost use mathlib.Core.Path.{_≡_};
 ghost use Rattle.format.specs.Answers.{QuestionRead};
 ghost use Rattle.verdict.specs.Verdict.{VerdictAnswer, CodedAnswer, goalTest};

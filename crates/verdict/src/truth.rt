@@ -1,11 +1,10 @@
 // Whether an entry's formula holds where the variables stand: one truth value, so that a goal is not worked out for every start.
-use crate::atoms;
-use crate::env;
-use crate::env::Env;
 use crate::evaluation;
 use crate::kinds;
 use format::record;
 use format::record::Sort;
+use hand::env;
+use hand::env::Env;
 ghost use mathlib.Core.Path.{_≡_};
 ghost use Rattle.verdict.specs.Evaluation.{Ready, truthOf, modalOver};
 
@@ -19,7 +18,7 @@ pub fn holds(image: &[u8], table: &[u8], next: &[u64], n: usize, e: u8, env: Env
     let first = kinds::is_first(kind);
     match record::sort_of(kind) {
         Sort::Constant => first,
-        Sort::Atom => atoms::atom_holds(image, r, env) == first,
+        Sort::Atom => hand::atom_holds(image, r, env) == first,
         Sort::Junction => {
             let a = holds(image, table, next, n, r.a, env);
             if a == first {

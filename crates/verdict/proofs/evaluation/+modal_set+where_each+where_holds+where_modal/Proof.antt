@@ -27,8 +27,8 @@ use Rattle.verdict.proofs.EvaluationLaws.{ready-bound, ready-rule, unar
 use Rattle.verdict.proofs.atoms.where_in.Reads as where-in-reads
 use Rattle.verdict.proofs.atoms.where_literal.Reads as where-literal-reads
 use Rattle.verdict.proofs.dependence.depends.Reads as depends-reads
-use Rattle.verdict.proofs.env.Env.bound.Reads as bound-reads
-use Rattle.verdict.proofs.env.stage_of.Reads as stage-of-reads
+use Rattle.hand.proofs.env.Env.bound.Reads as bound-reads
+use Rattle.hand.proofs.env.stage_of.Reads as stage-of-reads
 use Rattle.verdict.proofs.evaluation.+modal_set+where_each+where_holds+where_modal.Lts-modal_set as modal-set-lts
 use Rattle.verdict.proofs.evaluation.+modal_set+where_each+where_holds+where_modal.Lts-where_each as where-each-lts
 use Rattle.verdict.proofs.evaluation.+modal_set+where_each+where_holds+where_modal.Lts-where_holds as where-holds-lts

@@ -14,7 +14,7 @@ use Rattle.format.specs.declared.record.Sort.{Sort}
 use Rattle.verdict.specs.Kinds.{isFirst}
 use Rattle.verdict.proofs.EvaluationLaws.{junction-first, junction-second}
 use Rattle.verdict.proofs.TruthLaws.{constant-truth, literal-truth, settled-truth, second-truth, unary-truth, binary-truth, none-truth}
-use Rattle.verdict.proofs.atoms.atom_holds.Reads as atom-holds-reads
+use Rattle.hand.proofs.atom_holds.Reads as atom-holds-reads
 use Rattle.verdict.proofs.kinds.is_first.Reads as is-first-reads
 use Rattle.verdict.proofs.truth.+holds.Lts-holds as holds-lts
 use Rattle.verdict.proofs.truth.holds.Kinds as holds-kinds

@@ -1,0 +1,13 @@
+-- The laws of checking, over plain values: each function's proof hands its facts to them. Then what is promised (`Promise`), and document 01's
+-- marked cases (`Example`).
+pub mod ConditionLaws
+pub mod StepLaws
+pub mod ReadingLaws
+pub mod WalkLaws
+pub mod EachLaws
+pub mod CheckLaws
+pub mod ByteLaws
+pub mod CertificateLaws
+pub mod AnswerLaws
+pub mod Promise
+pub mod Example

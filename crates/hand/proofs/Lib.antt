@@ -1,0 +1,5 @@
+-- The laws of the formula in hand.
+pub mod EnvironmentLaws
+pub mod HandLaws
+pub mod SideLaws
+pub mod Promise

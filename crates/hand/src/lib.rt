@@ -1,0 +1,115 @@
+// The formula in hand: the four variables as one value, the terms and the atom that are read in them, the kind that an entry's formula has on a
+// side, the stage at which it is in hand, and the successors of a stage. The search and the checker both go by these; all of them are total.
+pub mod env;
+
+use env::Env;
+use format::byte;
+use format::image;
+use format::record;
+use format::record::Kind;
+use format::record::Record;
+use format::record::Sort;
+use sets::Set;
+ghost use mathlib.Core.Path.{_≡_};
+ghost use Rattle.sets.specs.Number.{number};
+ghost use Rattle.format.specs.Table.{kindOf};
+ghost use Rattle.hand.specs.Environment.{envOf};
+ghost use Rattle.hand.specs.Side.{dualKind, kindOn, numberOf};
+ghost use Rattle.hand.specs.Hand.{SuccessorsOf, atomIn, startIn};
+
+// The kind of the dual. What is no kind counts as false.
+fn dual_of(kind: Kind) -> Kind
+    ensures { λ r. ⌜ r ≡ dualKind kind ⌝ }
+{
+    match kind {
+        Kind::True => Kind::False,
+        Kind::False => Kind::True,
+        Kind::Is => Kind::IsNot,
+        Kind::IsNot => Kind::Is,
+        Kind::And => Kind::Or,
+        Kind::Or => Kind::And,
+        Kind::AX => Kind::EX,
+        Kind::EX => Kind::AX,
+        Kind::AF => Kind::EG,
+        Kind::EG => Kind::AF,
+        Kind::AR => Kind::EU,
+        Kind::EU => Kind::AR,
+        Kind::NoKind => Kind::True,
+    }
+}
+
+// The number of a kind, by which a step's head is read.
+fn number_of(kind: Kind) -> u8
+    ensures { λ r. ⌜ r ≡ numberOf kind ⌝ }
+{
+    match kind {
+        Kind::True => 0,
+        Kind::False => 1,
+        Kind::Is => 2,
+        Kind::IsNot => 3,
+        Kind::And => 4,
+        Kind::Or => 5,
+        Kind::AX => 6,
+        Kind::EX => 7,
+        Kind::AF => 8,
+        Kind::EG => 9,
+        Kind::AR => 10,
+        Kind::EU => 11,
+        Kind::NoKind => 1,
+    }
+}
+
+// The kind in hand, from the kind that a record has: on side 0 its own, on side 1 the dual's.
+pub fn kind_on(side: u8, kind: u8) -> Kind
+    ensures { λ r. ⌜ r ≡ kindOn side (kindOf kind) ⌝ }
+{
+    let k = record::kind_of(kind);
+    if side == 0 { k } else { dual_of(k) }
+}
+
+// The number of the kind in hand.
+pub fn number_on(side: u8, kind: u8) -> u8
+    ensures { λ r. ⌜ r ≡ numberOf (kindOn side (kindOf kind)) ⌝ }
+{
+    number_of(kind_on(side, kind))
+}
+
+// The stage at which a formula is in hand: that of a modality's term; of another formula, 0.
+pub fn start_of(r: Record, env: Env) -> u8
+    ensures { λ s. ⌜ s ≡ startIn r (envOf env) ⌝ }
+{
+    let sort = record::sort_of(record::kind_of(r.kind));
+    match sort {
+        Sort::Constant => 0,
+        Sort::Atom => 0,
+        Sort::Junction => 0,
+        Sort::Unary => env::stage_of(r.t, env),
+        Sort::Binary => env::stage_of(r.t, env),
+        Sort::NoSort => 0,
+    }
+}
+
+// Whether a record's atom is true.
+pub fn atom_holds(image: &[u8], r: Record, env: Env) -> bool
+    ensures { λ b. ⌜ b ≡ atomIn (now (image .entry)) r (envOf env) ⌝ }
+{
+    let first = image::first_set(image, r.a);
+    let t = env::stage_of(r.t, env) as usize;
+    if byte(image, 7 + r.a as usize) == 2 {
+        let b = env::stage_of(r.b, env) as usize;
+        sets::has(image::set(image, first + t), b)
+    } else {
+        sets::has(image::set(image, first), t)
+    }
+}
+
+// The successors of a stage; none of what is no stage.
+pub fn successors(image: &[u8], s: u8) -> Set
+    ensures { λ r. ⌜ SuccessorsOf (now (image .entry)) s (number r) ⌝ }
+{
+    if s < byte(image, 5) {
+        image::set(image, s as usize)
+    } else {
+        sets::empty()
+    }
+}
