@@ -164,16 +164,16 @@ static size_t place(const struct mutant *it)
 
 static size_t limit(const struct mutant *it)
 {
-    size_t limit = it->mutation->limit;
-    return limit == OWN ? (it->at - RECORDS) / RECORD : limit == STAGES ? stages(it) : limit;
+    size_t told = it->mutation->limit;
+    return told == OWN ? (it->at - RECORDS) / RECORD : told == STAGES ? stages(it) : told;
 }
 
-/* How many bytes from a place on: a unit of them, or if a unit is a byte few of them or any. */
+/* How many bytes from a place on: a unit of them; where a unit is a byte, few of them or any number. */
 static size_t run(const struct mutant *it, size_t at)
 {
     const size_t runs[] = {1, 1, 2, 3, 4, 6, 8, 12, 16, below(it->in->len + 1)};
-    size_t unit = it->mutation->unit, run = unit > 1 ? unit : PICK(runs), left = at < it->in->len ? it->in->len - at : 0;
-    return run < left ? run : left;
+    size_t unit = it->mutation->unit, len = unit > 1 ? unit : PICK(runs), left = at < it->in->len ? it->in->len - at : 0;
+    return len < left ? len : left;
 }
 
 /* ---- Mutations of bytes ---- */
@@ -202,7 +202,7 @@ static void repeated(struct mutant *it)
     replace(it->in, to, 0, it->in->at + it->at, run(it, it->at));
 }
 
-/* With another unit, or where there is a limit a byte with its neighbour. */
+/* A unit with another one; where there is a limit, which is then 1, a byte with its neighbour. */
 static void exchanged(struct mutant *it)
 {
     size_t i, next = it->mutation->limit, to = next > 0 ? it->at + next : place(it);
@@ -496,8 +496,8 @@ static uint64_t work(const struct mutant *it)
         size_t at = RECORDS + RECORD * entry, kind = get(table, at + KIND), a = get(table, at + A), b = get(table, at + B);
         int has_b = kind == 4 || kind == 5 || kind >= 10;
         uint64_t operands = (a < entry ? works[a] : 0) + (has_b && b < entry ? works[b] : 0);
-        uint64_t work = kind < 4 ? 1 : kind < 6 ? operands + 1 : n * operands + n * n;
-        works[entry] = work < past_all ? work : past_all;
+        uint64_t own = kind < 4 ? 1 : kind < 6 ? operands + 1 : n * operands + n * n;
+        works[entry] = own < past_all ? own : past_all;
     }
     return works[it->goal];
 }

@@ -42,6 +42,15 @@ uint64_t zseq_check(const uint8_t *image, size_t image_len, const uint8_t *table
                     size_t certificate_len, uint64_t goal, uint64_t start);
 
 /*
+ * The writing of the certificate for a goal, asked at a start stage: ZSEQ_YES or ZSEQ_NO, by the side that holds, with the certificate of that side at
+ * the front of the lent buffer, the rest of it kept, and the certificate's length in *length; or the first of the refusals 1 to 13, and then 14
+ * where the certificate is longer than the buffer, however long it is. A refusal changes neither buffer nor length. `length` is not null and lies in
+ * no input and not in the buffer. Archive: libwriter.a.
+ */
+uint64_t zseq_write(const uint8_t *image, size_t image_len, const uint8_t *table, size_t table_len, uint64_t goal, uint64_t start, uint8_t *buffer,
+                    size_t buffer_len, uint64_t *length);
+
+/*
  * The dead ends of a graph: the stages from which no path reaches predicate 0, the stage itself counted. ZSEQ_ANSWER and the number of
  * them added, with the set of them in the first ZSEQ_SET bytes of the lent buffer and the rest of it kept; or the first of the refusals
  * 1 to 5 and 15. A buffer of fewer bytes is not written, and the result is the same. Archive: libdeadends.a.

@@ -1,0 +1,2 @@
+-- The three demands are met.
+pub mod Promise

@@ -1,0 +1,2 @@
+-- The three demands.
+pub mod Demands

@@ -1,0 +1,1 @@
+// The three demands on the checker, each stated and shown as one theorem over the services' contracts: no code.

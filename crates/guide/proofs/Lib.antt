@@ -1,0 +1,6 @@
+-- The laws of a guide, over plain values: each function's proof hands its facts to them.
+pub mod TowardLaws
+pub mod NearestLaws
+pub mod SideLaws
+pub mod WorkedLaws
+pub mod Promise

@@ -1,0 +1,108 @@
+-- `guide::toward::nearest` meets its contract. The loop's invariant: k rounds have been gone, whatever graph the row holds.
+use Prim.Native.Nat.{_≤_, _-_}
+use mathlib.Core.Path.{_≡_, _∙_}
+use native.Mathlib.Omega.{arith}
+use borrow.Author.Needs.{needs}
+use lib.ListN.{length}
+use Rattle.model.specs.Decides.{decided}
+use Rattle.model.specs.Graph.{Graph}
+use Rattle.sets.specs.Number.{number}
+use Rattle.modal.specs.Row.{member, Row}
+use Rattle.guide.proofs.NearestLaws.{Nearing, nearing-start, nearing-more, nearing-rest, nearing-end}
+use Rattle.guide.proofs.toward.nearest.Statement.{statement}
+use Rattle.guide.proofs.toward.nearest.Tie as tie
+
+abbrev Inv-loop : tie.InvT-loop
+Inv-loop next n a toward₀ near₀ done₀ k₀ toward near done k =
+    (k ≤ n) × (length toward ≡ length toward₀)
+    × ((G : Graph) → Row next n G → Nearing G (member (number a)) (member (number near₀)) k (number near) (number done) toward₀ toward)
+
+abbrev μ-loop : tie.MeasureT-loop
+μ-loop next n a toward₀ near₀ done₀ k₀ toward near done k = n - k
+
+empty-requires : tie.Need-empty-requires Inv-loop μ-loop
+empty-requires c κs = search needs
+
+loop-holds : tie.Need-loop-holds Inv-loop μ-loop
+loop-holds c = (search needs, search needs, λ G R. nearing-start R _ _ (c .empty .ensures) (c .before .before .before .pre .2))
+
+some-next-requires : tie.Need-some-next-requires Inv-loop μ-loop
+some-next-requires c κs = search needs
+
+minus-requires : tie.Need-minus-requires Inv-loop μ-loop
+minus-requires c κs = search needs
+
+is-empty-requires : tie.Need-is-empty-requires Inv-loop μ-loop
+is-empty-requires c κs = search needs
+
+same-length : tie.Need-same-length Inv-loop μ-loop
+same-length c = c .before .before .before .before .before .loop .inv .1
+
+returns : tie.Need-returns Inv-loop μ-loop
+returns c =
+    let inv = c .before .before .before .before .before .loop .inv in
+    λ G R. nearing-rest R _ _ _ (inv .2 G R) (c .before .before .before .some-next .ensures) (c .before .before .minus .ensures)
+    (decided _ (c .before .is-empty .ensures) (c .if1 .taken))
+
+settle-requires : tie.Need-settle-requires Inv-loop μ-loop
+settle-requires c κs =
+    let pre = c .before .before .before .before .before .before .before .before .before .before .pre in
+    (search needs, omega (arith, c .before .before .before .before .before .before .loop .inv .1, pre .1))
+
+union-requires : tie.Need-union-requires Inv-loop μ-loop
+union-requires c κs = search needs
+
+common-requires : tie.Need-common-requires Inv-loop μ-loop
+common-requires c κs = search needs
+
+union-requires-2 : tie.Need-union-requires-2 Inv-loop μ-loop
+union-requires-2 c κs = search needs
+
+add-k : tie.Need-add-k Inv-loop μ-loop
+add-k c = search needs
+
+loop-less : tie.Need-loop-less Inv-loop μ-loop
+loop-less c = search needs
+
+loop-again : tie.Need-loop-again Inv-loop μ-loop
+loop-again c =
+    let inv = c .before .before .before .before .before .before .before .before .before .before .before .before .loop .inv in
+    let some-next = c .before .before .before .before .before .before .before .before .before .before .some-next in
+    let minus = c .before .before .before .before .before .before .before .before .before .minus in
+    let settle = c .before .before .before .before .before .settle in
+    let union = c .before .before .union in
+    let taken = c .before .before .before .before .before .before .before .before .before .before .before .loop-test .taken in (
+      search needs,
+      settle .ensures .size ∙ inv .1,
+      λ G R. nearing-more R _ _ _ (inv .2 G R) (some-next .ensures) (minus .ensures) taken (settle .ensures) (union .ensures)
+          (c .before .common .ensures) (c .union2 .ensures),
+    )
+
+same-length-2 : tie.Need-same-length-2 Inv-loop μ-loop
+same-length-2 c = c .before .loop .inv .1
+
+returns-2 : tie.Need-returns-2 Inv-loop μ-loop
+returns-2 c = λ G R. nearing-end R _ _ (c .loop-test .left) (c .before .loop .inv .2 G R)
+
+pub nearest-spec : {M : Type 1} → statement M
+nearest-spec =
+    tie.close
+    (tie.spec
+    Inv-loop
+    μ-loop
+    empty-requires
+    loop-holds
+    some-next-requires
+    minus-requires
+    is-empty-requires
+    same-length
+    returns
+    settle-requires
+    union-requires
+    common-requires
+    union-requires-2
+    add-k
+    loop-less
+    loop-again
+    same-length-2
+    returns-2)

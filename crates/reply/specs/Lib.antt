@@ -1,0 +1,3 @@
+-- What the program zseq answers: one line for one input.
+pub mod Reply
+pub mod Printing
