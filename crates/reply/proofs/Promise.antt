@@ -200,7 +200,8 @@ module _ {input before after line : List ℕ} (a : Answers input before after li
     side-word : (s : ℕ) → s ≤ 1 → Says (sideWord s) line ↔ SideHolds s
     side-word s h = (holds a, says)
       where
-        exactly : Clear (refusalsOf o before) → (s ≡ sideOf o) ↔ Holds (graphOf (o .image)) (sided s (treeOf (o .image) (o .table) (o .goal))) (started (o .start))
+        exactly : Clear (refusalsOf o before)
+            → (s ≡ sideOf o) ↔ Holds (graphOf (o .image)) (sided s (treeOf (o .image) (o .table) (o .goal))) (started (o .start))
         exactly c = side-exactly (o .image) (o .table) (o .goal) (o .start) (asked c) s h
 
         holds : Answers input before after line → Says (sideWord s) line → SideHolds s

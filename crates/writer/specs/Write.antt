@@ -18,8 +18,8 @@ use Rattle.checker.specs.Header.{headerOf}
 use Rattle.writer.specs.declared.answer.Answer.{Answer}
 use Rattle.writer.specs.declared.answer.Answer.the-variants as An
 
--- The side that holds: 0, the goal, where its test passes, else 1, its dual. The test says the same as the meaning over paths: `side-holds` in `proofs/`
--- shows that this side holds, and `other-fails` that the other does not.
+-- The side that holds: 0, the goal, where its test passes, else 1, its dual. The test decides the meaning over paths: `side-exactly` in `proofs/Promise`
+-- shows that of the two sides this is the one that holds.
 abbrev pub sideBy : Bool → ℕ
 sideBy true = 0
 sideBy false = 1

@@ -47,15 +47,26 @@ has-requires-2 c κs = search needs
 
 returns : tie.Need-returns
 returns c =
-    let a = c .before .before .before .before .before .before .before .before .before .args in
-    atom-two-is (a .image .now) (a .r) (envOf (a .env)) (c .before .before .before .before .before .before .before .first-set .ensures .is) (sym (c .before .before .before .before .byte .ensures) ∙ c .before .before .before .if1 .taken) (c .before .before .before .before .before .before .stage-of .ensures)
-    (c .before .before .stage-of2 .ensures) (c .before .set .ensures) (c .has .ensures)
+    let args = c .before .before .before .before .before .before .before .before .before .args in
+    let first-set = c .before .before .before .before .before .before .before .first-set in
+    let stage-of = c .before .before .before .before .before .before .stage-of in
+    let byte = c .before .before .before .before .byte in
+    let if1 = c .before .before .before .if1 in
+    let stage-of2 = c .before .before .stage-of2 in
+    let set = c .before .set in
+    atom-two-is (args .image .now) (args .r) (envOf (args .env)) (first-set .ensures .is) (sym (byte .ensures) ∙ if1 .taken) (stage-of .ensures)
+    (stage-of2 .ensures) (set .ensures) (c .has .ensures)
 
 returns-2 : tie.Need-returns-2
 returns-2 c =
-    let a = c .before .before .before .before .before .before .before .before .args in
-    atom-one-is (a .image .now) (a .r) (envOf (a .env)) (c .before .before .before .before .before .before .first-set .ensures .is) (λ e. c .before .before .if1 .left (c .before .before .before .byte .ensures ∙ e)) (c .before .before .before .before .before .stage-of .ensures)
-    (c .before .set2 .ensures) (c .has2 .ensures)
+    let args = c .before .before .before .before .before .before .before .before .args in
+    let first-set = c .before .before .before .before .before .before .first-set in
+    let stage-of = c .before .before .before .before .before .stage-of in
+    let byte = c .before .before .before .byte in
+    let if1 = c .before .before .if1 in
+    let set2 = c .before .set2 in
+    atom-one-is (args .image .now) (args .r) (envOf (args .env)) (first-set .ensures .is) (λ e. if1 .left (byte .ensures ∙ e)) (stage-of .ensures)
+    (set2 .ensures) (c .has2 .ensures)
 
 pub atom-holds-spec : {M : Type 1} → statement M
 atom-holds-spec =

@@ -46,10 +46,20 @@ returns-3 : tie.Need-returns-3
 returns-3 c = search needs
 
 returns-4 : tie.Need-returns-4
-returns-4 c = c .stage-of .ensures ∙ stage-row (c .before .before .before .before .before .args .r) (envOf (c .before .before .before .before .before .args .env)) (c .before .before .before .before .kind-of .ensures) (c .before .before .before .sort-of .ensures) (c .before .enum-told4 .given .1)
+returns-4 c =
+    let args = c .before .before .before .before .before .args in
+    let kind-of = c .before .before .before .before .kind-of in
+    let sort-of = c .before .before .before .sort-of in
+    let arm = c .before .enum-told4 in
+    c .stage-of .ensures ∙ stage-row (args .r) (envOf (args .env)) (kind-of .ensures) (sort-of .ensures) (arm .given .1)
 
 returns-5 : tie.Need-returns-5
-returns-5 c = c .stage-of2 .ensures ∙ stage-row (c .before .before .before .before .before .args .r) (envOf (c .before .before .before .before .before .args .env)) (c .before .before .before .before .kind-of .ensures) (c .before .before .before .sort-of .ensures) (c .before .enum-told5 .given .1)
+returns-5 c =
+    let args = c .before .before .before .before .before .args in
+    let kind-of = c .before .before .before .before .kind-of in
+    let sort-of = c .before .before .before .sort-of in
+    let arm = c .before .enum-told5 in
+    c .stage-of2 .ensures ∙ stage-row (args .r) (envOf (args .env)) (kind-of .ensures) (sort-of .ensures) (arm .given .1)
 
 returns-6 : tie.Need-returns-6
 returns-6 c = search needs
