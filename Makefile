@@ -2,7 +2,7 @@
 # make test     the gate: proofs, must-fail edits, the libraries from C, the comparison with the independent program
 # make build    the static libraries, the C programs and the independent program
 # make picture  draws the example's graph with its dead ends marked; IMAGE=FILE draws another
-# make bench    our libraries beside two versions in Rust
+# make bench    our libraries beside two versions in Rust; bench/stack measures the stack
 
 QUESTION = examples/can-fire.bin
 IMAGE = examples/sequence.image
