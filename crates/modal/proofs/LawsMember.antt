@@ -7,9 +7,10 @@
 --     some-member                               a set that is not empty has a member
 --     same-within, same-not                     two sets are one
 --     Agree, computes-as                        tests that are the same below n; a set worked out for one is worked out for the other
+--     clip-agrees                               what a set has below n
 --
 -- Assumes nothing.
-use mathlib.Core.Path.{_≡_, sym, ap, _∙_, subst}
+use mathlib.Core.Path.{_≡_, refl, sym, ap, _∙_, subst}
 use mathlib.Core.Bool.{Bool, true, false, not, _&&_, _||_}
 use mathlib.Core.List.{List}
 use mathlib.Core.Logic.{_↔_, ⊎-elim, Iff·trans, Iff·symm}
@@ -121,3 +122,12 @@ Agree n x y = (s : ℕ) → s < n → x s ≡ y s
 pub computes-as : {next : List ℕ} {n : ℕ} {op op′ : Graph → Stages} {r : ℕ} → ((G : Graph) → Row next n G → Agree n (op G) (op′ G))
     → Computes next n op r → Computes next n op′ r
 computes-as same c = record { inside = c .inside; right = λ G R s h. c .right G R s h ∙ same G R s h }
+
+-- To ask for what is true is to ask for nothing.
+and-true : (b : Bool) → (b && true) ≡ b
+and-true true = refl
+and-true false = refl
+
+-- What a set has below n agrees with it there.
+pub clip-agrees : {n all x : ℕ} (b : ℕ) → all ≡ below n → x ≡ bitAnd b all → n ≤ width → Agree n (member x) (member b)
+clip-agrees {all = all} b f e w s h = member-and b all e s ∙ ap (_&&_ (member b s)) (member-all f w s h) ∙ and-true (member b s)

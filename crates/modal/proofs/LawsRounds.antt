@@ -10,32 +10,27 @@
 --
 -- Assumes nothing.
 use mathlib.Core.Path.{_≡_, refl, sym, ap, ap₂, _∙_, subst}
-use mathlib.Core.Bool.{Bool, true, false, _&&_, _||_}
+use mathlib.Core.Bool.{Bool, true, false, not, _&&_, _||_}
 use mathlib.Core.List.{List}
 use mathlib.Core.Logic.{⊎-elim}
-use Prim.Native.Nat.{ℕ, zero, suc, _+_, _≤_}
+use Prim.Native.Nat.{ℕ, zero, suc, _+_, _-_, _≤_}
 use native.Mathlib.Numerals.{add-one}
 use native.Mathlib.Omega.{arith}
 use lib.Bits.{bitAnd, bitOr}
 use Rattle.model.specs.Graph.{Graph}
 use Rattle.logic.proofs.Successors.{some-next-same, each-next-same}
 use Rattle.logic.proofs.Test.{Stages, iter}
-use Rattle.sets.specs.Number.{width}
 use Rattle.sets.proofs.LawsMember.{side?}
 use Rattle.modal.specs.Row.{member, Inside, Computes}
-use Rattle.modal.specs.Rounds.{step, round, rounds, stepOn, roundOn, afterOn, roundsOn}
+use Rattle.modal.specs.Rounds.{step, round, rounds, readyOn, roundOn, afterOn, roundsOn}
 use Rattle.modal.specs.Modal.{egOf, afOf}
 use Rattle.modal.specs.declared.Which.{Which}
 use Rattle.modal.specs.declared.Which.the-variants.{Some, Each}
 use Rattle.modal.specs.declared.Way.{Way}
 use Rattle.modal.specs.declared.Way.the-variants.{Shrink, Grow}
-use Rattle.modal.proofs.LawsMember.{Agree, computes-as, below, member-same, member-and, member-or, member-none, member-all}
+use Rattle.modal.proofs.LawsMember.{Agree, computes-as, clip-agrees, below, member-same, member-and, member-or, member-minus}
+use Rattle.modal.proofs.LawsMember.{member-none, member-all}
 use Rattle.modal.proofs.LawsMember.{inside-or, inside-left, inside-right, inside-all}
-
--- To ask for what is true is to ask for nothing.
-and-true : (b : Bool) → (b && true) ≡ b
-and-true true = refl
-and-true false = refl
 
 -- ---- only what is below n counts
 
@@ -75,21 +70,42 @@ rest way which G a b x still (suc m) k h e =
 
 -- ---- a round, worked out
 
-module _ {next : List ℕ} {n : ℕ} (which : Which) (a x : ℕ) {ready inner r : ℕ} (c : Computes next n (stepOn which x) ready) where
+-- What a round need not look at: a stage with a stays,
+shrink-asks : (x a e : Bool) → ((x && a) || ((x && not a) && e)) ≡ (x && (a || e))
+shrink-asks true true e = refl
+shrink-asks true false e = refl
+shrink-asks false a e = refl
+
+-- and a stage of x is there already.
+grow-asks : (x a e : Bool) → (x || ((a && not x) && e)) ≡ (x || (a && e))
+grow-asks true a e = refl
+grow-asks false true e = refl
+grow-asks false false e = refl
+
+module _ {next : List ℕ} {n : ℕ} (which : Which) (a x : ℕ) {asked ready r : ℕ} (c : Computes next n (readyOn which asked x) ready) where
   -- One that shrinks,
-  pub shrink-computes : inner ≡ bitOr a ready → r ≡ bitAnd x inner → Inside n x → Computes next n (roundOn Shrink which a x) r
-  unfolding step round
-  shrink-computes f e i = record {
-    inside = inside-left x inner e i;
-    right = λ G R s h. member-and x inner e s ∙ ap (_&&_ (member x s)) (member-or a ready f s ∙ ap (_||_ (member a s)) (c .right G R s h));
+  pub shrink-computes : {released : ℕ} → released ≡ bitAnd x a → asked ≡ x - bitAnd x a → r ≡ bitOr released ready → Inside n x
+      → Computes next n (roundOn Shrink which a x) r
+  unfolding round
+  shrink-computes {released} f g e i = record {
+    inside = inside-or released ready e (inside-left x a f i) (c .inside);
+    right = λ G R s h.
+        let st = step which G (member x) s in
+        member-or released ready e s
+        ∙ ap₂ _||_ (member-and x a f s) (c .right G R s h ∙ ap (λ (b : Bool). b && st) (member-minus x a g s))
+        ∙ shrink-asks (member x s) (member a s) st;
   }
 
   -- and one that grows.
-  pub grow-computes : inner ≡ bitAnd a ready → r ≡ bitOr x inner → Inside n x → Computes next n (roundOn Grow which a x) r
-  unfolding step round
-  grow-computes f e i = record {
-    inside = inside-or x inner e i (inside-right a ready f (c .inside));
-    right = λ G R s h. member-or x inner e s ∙ ap (_||_ (member x s)) (member-and a ready f s ∙ ap (_&&_ (member a s)) (c .right G R s h));
+  pub grow-computes : asked ≡ a - bitAnd a x → r ≡ bitOr x ready → Inside n x → Computes next n (roundOn Grow which a x) r
+  unfolding round
+  grow-computes g e i = record {
+    inside = inside-or x ready e i (c .inside);
+    right = λ G R s h.
+        let st = step which G (member x) s in
+        member-or x ready e s
+        ∙ ap (_||_ (member x s)) (c .right G R s h ∙ ap (λ (b : Bool). b && st) (member-minus a x g s))
+        ∙ grow-asks (member x s) (member a s) st;
   }
 
 -- ---- the loop
@@ -131,11 +147,7 @@ module _ {next : List ℕ} {n : ℕ} (way : Way) (which : Which) (a b : ℕ) whe
 pub clip-inside : {n all x : ℕ} (b : ℕ) → all ≡ below n → x ≡ bitAnd b all → Inside n x
 clip-inside {all = all} b f e = inside-right b all e (inside-all f)
 
--- and agrees with it there,
-clip-agrees : {n all x : ℕ} (b : ℕ) → all ≡ below n → x ≡ bitAnd b all → n ≤ width → Agree n (member x) (member b)
-clip-agrees {all = all} b f e w s h = member-and b all e s ∙ ap (_&&_ (member b s)) (member-all f w s h) ∙ and-true (member b s)
-
--- so that rounds from there are rounds from the set.
+-- and as it agrees with the set there, rounds from it are rounds from the set.
 pub clip-computes : {next : List ℕ} {n r all x : ℕ} (way : Way) (which : Which) (a b : ℕ) → all ≡ below n → x ≡ bitAnd b all
     → Computes next n (roundsOn way which a x) r → Computes next n (roundsOn way which a b) r
 clip-computes {x = x} way which a b f e c =

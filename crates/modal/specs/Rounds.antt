@@ -31,6 +31,10 @@ rounds k way which G a b = iter (round way which G a) k b
 abbrev pub stepOn : Which → ℕ → Graph → Stages
 stepOn which x G = step which G (member x)
 
+-- the step, asked of the stages `among`,
+abbrev pub readyOn : Which → ℕ → ℕ → Graph → Stages
+readyOn which among x G s = member among s && step which G (member x) s
+
 -- a round from x,
 abbrev pub roundOn : Way → Which → ℕ → ℕ → Graph → Stages
 roundOn way which a x G = round way which G (member a) (member x)

@@ -2,10 +2,12 @@
 use Prim.Native.Nat.{ℕ, _≤_, _<_}
 use mathlib.Core.Path.{_≡_}
 use mathlib.Core.List.{List}
+use mathlib.Core.Logic.{_↔_}
+use lib.Bits.{bitAnd}
 use lib.Dec.{eqb}
 use Rattle.model.specs.Graph.{Graph}
 use Rattle.logic.proofs.Test.{Stages}
-use Rattle.sets.specs.Member.{bit, Has}
+use Rattle.sets.specs.Member.{bit, Has, Empty}
 use Rattle.sets.specs.Number.{width}
 use Rattle.sets.specs.Row.{held}
 
@@ -27,3 +29,11 @@ Inside n r = (k : ℕ) → Has r k → k < n
 pub record Computes (next : List ℕ) (n : ℕ) (op : Graph → Stages) (r : ℕ) : Type 0 where
   pub inside : Inside n r
   pub right : (G : Graph) → Row next n G → (s : ℕ) → s < n → member r s ≡ op G s
+
+-- The sets a and b have a stage in common.
+abbrev pub Meets : ℕ → ℕ → Type 0
+Meets a b = Empty (bitAnd a b) → ⊥
+
+-- r is the set of those stages of `among` whose sets in the row meet what is wanted.
+pub record Meeting (next : List ℕ) (among wanted r : ℕ) : Type 0 where
+  pub each : (k : ℕ) → Has r k ↔ (Has among k × Meets (held next k) wanted)

@@ -11,8 +11,8 @@
 ghost use mathlib.Core.Path.{_≡_};
 ghost use Rattle.model.specs.Decides.{Decides};
 ghost use Rattle.sets.specs.Number.{number};
-ghost use Rattle.modal.specs.Row.{Inside, Computes};
-ghost use Rattle.modal.specs.Rounds.{stepOn, roundOn, roundsOn};
+ghost use Rattle.modal.specs.Row.{Inside, Computes, Meeting};
+ghost use Rattle.modal.specs.Rounds.{readyOn, roundOn, roundsOn};
 ghost use Rattle.modal.specs.Modal.{exOf, axOf, egOf, afOf, arOf, euOf};
 use sets::Set;
 
@@ -28,53 +28,67 @@ enum Way {
     Grow,
 }
 
-// EX: the stages below n with a successor in x.
-pub fn some_next(next: &[u64], n: usize, x: Set) -> Set
-    ensures { λ r. ⌜ Computes (now (next .entry)) n (exOf (number x)) (number r) ⌝ }
+// Those of the stages `among` whose successors meet what is wanted.
+fn meeting(next: &[u64], among: Set, wanted: Set) -> Set
+    ensures { λ r. ⌜ Meeting (now (next .entry)) (number among) (number wanted) (number r) ⌝ }
 {
-    let wanted = sets::common(x, sets::below(n));
+    let mut left = among;
     let mut found = sets::empty();
-    let mut s = 0;
-    while s < n {
+    while !sets::is_empty(left) {
+        let s = sets::lowest(left);
         let here = sets::common(sets::row::load(next, s), wanted);
         if !sets::is_empty(here) {
             found = sets::with(found, s);
         }
-        s += 1;
+        left = sets::rest(left);
     }
     found
 }
 
-// The stages below n with some, or with each, successor in x. Each is in x where none is outside.
-fn step(next: &[u64], n: usize, which: Which, x: Set) -> Set
-    ensures { λ r. ⌜ Computes (now (next .entry)) n (stepOn which (number x)) (number r) ⌝ }
+// Those of the stages `among` below n with some, or with each, successor in x. Each is in x where none is outside.
+fn ready(next: &[u64], n: usize, which: Which, among: Set, x: Set) -> Set
+    ensures { λ r. ⌜ Computes (now (next .entry)) n (readyOn which (number among) (number x)) (number r) ⌝ }
 {
+    let all = sets::below(n);
+    let asked = sets::common(among, all);
     match which {
-        Which::Some => some_next(next, n, x),
+        Which::Some => meeting(next, asked, sets::common(x, all)),
         Which::Each => {
-            let all = sets::below(n);
             let outside = sets::minus(all, x);
-            sets::minus(all, some_next(next, n, outside))
+            sets::minus(asked, meeting(next, asked, outside))
         }
     }
+}
+
+// EX: the stages below n with a successor in x.
+pub fn some_next(next: &[u64], n: usize, x: Set) -> Set
+    ensures { λ r. ⌜ Computes (now (next .entry)) n (exOf (number x)) (number r) ⌝ }
+{
+    ready(next, n, Which::Some, sets::below(n), x)
 }
 
 // AX: the stages below n all of whose successors are in x.
 pub fn each_next(next: &[u64], n: usize, x: Set) -> Set
     ensures { λ r. ⌜ Computes (now (next .entry)) n (axOf (number x)) (number r) ⌝ }
 {
-    step(next, n, Which::Each, x)
+    ready(next, n, Which::Each, sets::below(n), x)
 }
 
 // A round from x. One that shrinks keeps the stages with a, or with their successors in x; one that grows adds those with a and with
-// their successors in x.
+// their successors in x. It looks at those stages only that it may take away, or add.
 fn round(next: &[u64], n: usize, way: Way, which: Which, a: Set, x: Set) -> Set
     ensures { λ r. ⌜ (Inside n (number x) → Computes (now (next .entry)) n (roundOn way which (number a) (number x)) (number r)) ⌝ }
 {
-    let ready = step(next, n, which, x);
     match way {
-        Way::Shrink => sets::common(x, sets::union(a, ready)),
-        Way::Grow => sets::union(x, sets::common(a, ready)),
+        Way::Shrink => {
+            let released = sets::common(x, a);
+            let stays = ready(next, n, which, sets::minus(x, a), x);
+            sets::union(released, stays)
+        }
+        Way::Grow => {
+            let added = ready(next, n, which, sets::minus(a, x), x);
+            sets::union(x, added)
+        }
     }
 }
 
