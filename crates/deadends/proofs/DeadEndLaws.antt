@@ -42,7 +42,7 @@ use Rattle.format.specs.declared.image.Answer.{Answer}
 use Rattle.format.specs.declared.image.Answer.the-variants as Im
 use Rattle.format.proofs.RefusalLaws.{given-first, given-later, clear-both, clear-first}
 use Rattle.format.proofs.ReadableLaws.{sizes, readable}
-use Rattle.verdict.specs.Decoding.{Decoded}
+use Rattle.hand.specs.Setup.{Decoded}
 use Rattle.verdict.proofs.DecodeLaws.{decoded-row}
 use Rattle.deadends.specs.DeadEnd.{Fired, DeadEndsOf, NothingFires, firedConditions, reportConditions}
 use Rattle.deadends.specs.Report.{ReportAnswer, coded, Lent, CodedReport}

@@ -8,7 +8,7 @@ use answer::Report;
 use format::Refusal;
 use format::byte;
 use format::image;
-use verdict::successors;
+use hand::setup;
 ghost use mathlib.Core.Path.{_≡_};
 ghost use Rattle.model.specs.Decides.{Decides};
 ghost use Rattle.format.specs.Refusal.{Clear};
@@ -52,8 +52,8 @@ fn listed(image: &[u8], n: usize) -> Report
     requires { ⌜ Clear (reportConditions (now image)) × (n ≡ stagesOf (now image)) ⌝ }
     ensures { λ r. ⌜ ReportAnswer (now (image .entry)) r ⌝ }
 {
-    let mut next = [0u64; successors::WORDS];
-    successors::decode(image, n, &mut next);
+    let mut next = [0u64; setup::NEXT];
+    setup::decode(image, n, &mut next);
     let fired = image::set(image, image::first_set(image, 0));
     let all = sets::below(n);
     let able = modal::eu(&next, n, all, fired);

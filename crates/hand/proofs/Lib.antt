@@ -2,4 +2,5 @@
 pub mod EnvironmentLaws
 pub mod HandLaws
 pub mod SideLaws
+pub mod SetupLaws
 pub mod Promise

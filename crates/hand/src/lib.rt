@@ -1,6 +1,7 @@
 // The formula in hand: the four variables as one value, the terms and the atom that are read in them, the kind that an entry's formula has on a
 // side, the stage at which it is in hand, and the successors of a stage. The search and the checker both go by these; all of them are total.
 pub mod env;
+pub mod setup;
 
 use env::Env;
 use format::byte;

@@ -36,10 +36,10 @@ use Rattle.format.specs.declared.question.Question.{Question}
 use Rattle.format.specs.declared.question.Answer.{Answer}
 use Rattle.format.specs.declared.question.Answer.the-variants as Qu
 use Rattle.format.proofs.ReadableLaws.{of-setup, of-image, sizes, readable, ruled, tree-below, goal-below, start-below}
-use Rattle.verdict.specs.Decoding.{Decoded}
 use Rattle.verdict.specs.Evaluation.{Ready, truthOf}
 use Rattle.verdict.specs.Verdict.{Answered, goalTest}
 use Rattle.hand.specs.Environment.{started}
+use Rattle.hand.specs.Setup.{Decoded}
 use Rattle.hand.specs.declared.env.Env.{Env}
 use Rattle.hand.proofs.EnvironmentLaws.{start-env}
 use Rattle.verdict.proofs.DecodeLaws.{decoded-row}

@@ -6,7 +6,7 @@
 --     yes-exactly, no-exactly, no-unless, refused-exactly
 --     yes-anywhere, no-anywhere                the same with the variables 1 to 3 at any stages
 --     coded-injective                          the coding for callers in C
---     set-once, decoded-once                   one result of the public functions below the verdict
+--     set-once                                 one result of the public functions below the verdict
 --
 -- Assumes nothing.
 use Prim.Native.Nat.{ℕ, _≤_, _<_}
@@ -14,8 +14,6 @@ use native.Mathlib.Omega.{arith}
 use mathlib.Core.Path.{_≡_, refl, sym, ap, _∙_, subst}
 use mathlib.Core.List.{List}
 use mathlib.Core.Logic.{_↔_, Iff·trans, ⊎-elim}
-use lib.ListN.{length}
-use lib.Seq.{ext-getD}
 use Rattle.model.specs.Formula.{Formula, Env, dual, Free}
 use Rattle.logic.specs.Meaning.{Holds}
 use Rattle.logic.proofs.Test.{Stages}
@@ -23,9 +21,7 @@ use Rattle.logic.proofs.Duality.{dual-free, dual-holds}
 use Rattle.logic.proofs.Variables.{holds-start}
 use Rattle.sets.specs.declared.Set.{Set}
 use Rattle.sets.specs.Number.{number}
-use Rattle.sets.specs.Row.{held}
-use Rattle.sets.proofs.LawsMember.{side?}
-use Rattle.sets.proofs.LawsRow.{set-same, room-enough}
+use Rattle.sets.proofs.LawsRow.{set-same}
 use Rattle.format.specs.Refusal.{Given, Clear}
 use Rattle.format.specs.Image.{graphOf}
 use Rattle.format.specs.Table.{treeOf}
@@ -34,7 +30,6 @@ use Rattle.format.specs.declared.Refusal.{Refusal}
 use Rattle.format.proofs.RefusalLaws.{given-one, clear-none, number-injective, number-small}
 use Rattle.format.proofs.ReadableLaws.{only-zero}
 use Rattle.hand.specs.Environment.{started}
-use Rattle.verdict.specs.Decoding.{Decoded}
 use Rattle.verdict.specs.Evaluation.{Collects}
 use Rattle.verdict.specs.Verdict.{VerdictAnswer, coded, CodedAnswer}
 use Rattle.verdict.specs.declared.answer.Verdict.{Verdict}
@@ -123,14 +118,3 @@ code-once image table goal start m n p q =
 -- Two sets that collect one test are one set.
 pub set-once : {n : ℕ} {op : Stages} (r s : Set) → Collects n op (number r) → Collects n op (number s) → r ≡ s
 set-once r s c d = set-same r s (collects-once (number r) (number s) c d)
-
--- Two rows that an image is decoded to are one.
-pub decoded-once : (image : List ℕ) (n : ℕ) (row a b : List ℕ) → Decoded image n row a → Decoded image n row b → a ≡ b
-unfolding held
-decoded-once image n row a b p q = ext-getD 0 a b (p .size ∙ sym (q .size)) (λ s h. ⊎-elim (within s h) (beyond s) (side? s n))
-  where
-    within : (s : ℕ) → s < length a → s < n → held a s ≡ held b s
-    within s h l = let r = room-enough row s (omega (arith, p .size)) in p .sets s l r ∙ sym (q .sets s l r)
-
-    beyond : (s : ℕ) → n ≤ s → held a s ≡ held b s
-    beyond s l = p .others s l ∙ sym (q .others s l)

@@ -1,5 +1,4 @@
 -- The verdict: what evaluation gives, and what the services answer.
-pub mod Decoding
 pub mod Kinds
 pub mod Modality
 pub mod Evaluation

@@ -17,13 +17,13 @@ mod atoms;
 mod dependence;
 pub mod evaluation;
 mod kinds;
-pub mod successors;
 pub mod truth;
 
 use answer::Verdict;
 use format::question;
 use format::question::Question;
 use hand::env::Env;
+use hand::setup;
 ghost use mathlib.Core.Path.{_≡_};
 ghost use Rattle.format.specs.Answers.{QuestionRead};
 ghost use Rattle.verdict.specs.Verdict.{VerdictAnswer, CodedAnswer, goalTest};
@@ -53,8 +53,8 @@ fn goal_holds(image: &[u8], table: &[u8], q: Question) -> bool
     let shape = q.shape;
     let inner = shape.image;
     let n = inner.stages;
-    let mut next = [0u64; successors::WORDS];
-    successors::decode(image, n, &mut next);
+    let mut next = [0u64; setup::NEXT];
+    setup::decode(image, n, &mut next);
     let env = Env {
         slots: [q.start, 0, 0, 0],
     };

@@ -11,8 +11,8 @@ use format::Refusal;
 use format::question;
 use format::question::Question;
 use hand::env::Env;
+use hand::setup;
 use steps::Run;
-use verdict::successors;
 use verdict::truth;
 ghost use mathlib.Core.Path.{_≡_};
 ghost use Rattle.format.specs.Answers.{QuestionRead};
@@ -42,8 +42,8 @@ fn answered(image: &[u8], table: &[u8], q: Question, buffer: &mut [u8]) -> Answe
     let shape = q.shape;
     let inner = shape.image;
     let n = inner.stages;
-    let mut next = [0u64; successors::WORDS];
-    successors::decode(image, n, &mut next);
+    let mut next = [0u64; setup::NEXT];
+    setup::decode(image, n, &mut next);
     let env = Env {
         slots: [q.start, 0, 0, 0],
     };

@@ -1,16 +1,16 @@
--- `verdict::successors::decode` meets its contract. The loop's invariant: the first s sets are put in.
+-- `hand::setup::decode` meets its contract. The loop's invariant: the first i sets are put in.
 use Prim.Native.Nat.{_≤_, _-_}
 use borrow.Author.Needs.{needs}
-use Rattle.verdict.specs.Decoding.{Decoded}
-use Rattle.verdict.proofs.DecodeLaws.{decoded-start, decoded-more, decoded-end}
-use Rattle.verdict.proofs.successors.decode.Statement.{statement}
-use Rattle.verdict.proofs.successors.decode.Tie as tie
+use Rattle.hand.specs.Setup.{Decoded}
+use Rattle.hand.proofs.SetupLaws.{decoded-start, decoded-more, decoded-end}
+use Rattle.hand.proofs.setup.decode.Statement.{statement}
+use Rattle.hand.proofs.setup.decode.Tie as tie
 
 abbrev Inv-loop : tie.InvT-loop
-Inv-loop image n row₀ s₀ row s = (s ≤ n) × Decoded image s row₀ row
+Inv-loop image count row₀ i₀ row i = (i ≤ count) × Decoded image i row₀ row
 
 abbrev μ-loop : tie.MeasureT-loop
-μ-loop image n row₀ s₀ row s = n - s
+μ-loop image count row₀ i₀ row i = count - i
 
 loop-holds : tie.Need-loop-holds Inv-loop μ-loop
 loop-holds c = (search needs, decoded-start _ _)
@@ -21,8 +21,8 @@ set-requires c κs = search needs
 store-requires : tie.Need-store-requires Inv-loop μ-loop
 store-requires c κs = search needs
 
-add-s : tie.Need-add-s Inv-loop μ-loop
-add-s c = search needs
+add-i : tie.Need-add-i Inv-loop μ-loop
+add-i c = search needs
 
 loop-less : tie.Need-loop-less Inv-loop μ-loop
 loop-less c = search needs
@@ -49,7 +49,7 @@ decode-spec =
     loop-holds
     set-requires
     store-requires
-    add-s
+    add-i
     loop-less
     loop-again
     same-length
