@@ -17,7 +17,7 @@ use lib.Dec.{eqb, lit<}
 use lib.ListN.{length, getD, drop}
 use Rattle.model.specs.Graph.{Readable}
 use Rattle.model.specs.Formula.{Formula, pick, Below}
-use Rattle.logic.proofs.Compare.{Stand}
+use Rattle.logic.specs.Test.{Stand}
 use Rattle.logic.proofs.Duality.{dual-below}
 use Rattle.sets.specs.Number.{width}
 use Rattle.format.specs.Bytes.{byteAt}

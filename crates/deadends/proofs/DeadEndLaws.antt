@@ -23,7 +23,7 @@ use lib.Dec.{T}
 use lib.ListN.{length}
 use Rattle.model.specs.Graph.{Graph, Readable}
 use Rattle.logic.specs.Meaning.{Path, OnSomeUntil}
-use Rattle.logic.proofs.Test.{Stages, eu}
+use Rattle.logic.specs.Test.{Stages, eu}
 use Rattle.logic.proofs.TestMeaning.{eu-means}
 use Rattle.sets.specs.Member.{Has}
 use Rattle.sets.specs.Number.{width}

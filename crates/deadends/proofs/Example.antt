@@ -12,8 +12,8 @@ use mathlib.Core.List.{List, [], _∷_, _++_}
 use mathlib.Core.Logic.{_↔_, Iff·trans, Iff·symm, Iff·rfl}
 use lib.Count.{ones, onesIn}
 use lib.Dec.{T, lit<}
-use Rattle.logic.proofs.Booleans.{allBelow, anyBelow, all-below}
-use Rattle.logic.proofs.Test.{iter, someNext, eu}
+use Rattle.logic.proofs.Booleans.{all-below}
+use Rattle.logic.specs.Test.{iter, someNext, eu, allBelow, anyBelow}
 use Rattle.sets.specs.Member.{Has}
 use Rattle.sets.specs.Number.{stored}
 use Rattle.sets.proofs.LawsMember.{has-test, below-lt}

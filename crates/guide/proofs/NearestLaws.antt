@@ -19,9 +19,9 @@ use lib.Dec.{T}
 use lib.ListN.{getD}
 use Rattle.model.specs.Graph.{Graph}
 use Rattle.model.specs.Formula.{pick}
-use Rattle.logic.proofs.Booleans.{T-and, decide, same-test, anyBelow, any-below}
+use Rattle.logic.proofs.Booleans.{T-and, decide, same-test, any-below}
 use Rattle.logic.proofs.Successors.{some-next-same}
-use Rattle.logic.proofs.Test.{Stages, iter, someNext}
+use Rattle.logic.specs.Test.{Stages, iter, someNext, anyBelow}
 use Rattle.sets.specs.Member.{Empty}
 use Rattle.sets.proofs.LawsMember.{side?, has-test}
 use Rattle.modal.specs.Row.{member, Row, Computes}

@@ -19,7 +19,7 @@ use Rattle.model.specs.Graph.{Graph}
 use Rattle.model.specs.Formula.{Formula, bind}
 use Rattle.model.specs.Formula.{Env as Environment}
 use Rattle.logic.specs.Rules.{Walk, on}
-use Rattle.logic.proofs.Test.{Stages, test}
+use Rattle.logic.specs.Test.{Stages, test}
 use Rattle.modal.specs.Row.{member, Row, Computes}
 use Rattle.modal.specs.Modal.{egOf}
 use Rattle.modal.proofs.LawsOnce.{eg-agrees}

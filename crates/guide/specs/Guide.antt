@@ -9,7 +9,7 @@ use lib.ListN.{length, getD}
 use Rattle.model.specs.Graph.{Graph}
 use Rattle.model.specs.Formula.{Formula, Env}
 use Rattle.logic.specs.Rules.{Walk, on}
-use Rattle.logic.proofs.Test.{Stages, test}
+use Rattle.logic.specs.Test.{Stages, test}
 use Rattle.format.specs.Image.{member}
 use Rattle.format.specs.declared.record.Kind.{Kind}
 use Rattle.format.specs.declared.record.Kind.the-variants as K

@@ -9,7 +9,7 @@ use lib.ListN.{length}
 use Rattle.model.specs.Graph.{Graph}
 use Rattle.model.specs.Formula.{Formula, bind}
 use Rattle.model.specs.Formula.{Env as Environment}
-use Rattle.logic.proofs.Test.{Stages, test, eg}
+use Rattle.logic.specs.Test.{Stages, test, eg}
 use Rattle.format.specs.Image.{graphOf}
 use Rattle.format.specs.Table.{recordAt, kindOf, treeOf}
 use Rattle.format.specs.declared.record.Kind.{Kind}

@@ -6,8 +6,8 @@
 --     decide, same-test         a test passes or its negation does; tests that say the same are equal
 --     not-and, not-or           De Morgan
 --     equal?, differ            two numbers
---     allBelow, anyBelow        a test at every number below n, at some number below n
---     all-below, any-below      what they say; all-below-same, any-below-same; and De Morgan, none-below, not-all-below
+--     all-below, any-below      what a test at every number below n, at some number below n, says; all-below-same, any-below-same; and
+--                               De Morgan, none-below, not-all-below
 --     count, count-lt           how many numbers below n pass; fewer pass a narrower test
 use Prim.Native.Nat.{ℕ, zero, suc, _+_, _≤_, _<_}
 use native.Mathlib.Nat.{not-suc-le-zero}
@@ -16,6 +16,7 @@ use mathlib.Core.Path.{_≡_, refl, sym, ap₂, subst}
 use mathlib.Core.Bool.{Bool, true, false, not, _&&_, _||_}
 use mathlib.Core.Logic.{_↔_, _⊎_, inl, inr, ⊎-elim, Iff·trans, Iff·and}
 use lib.Dec.{T, eqb, eqb→eq, eqb-refl}
+use Rattle.logic.specs.Test.{allBelow, anyBelow}
 
 -- Both tests pass exactly when each does.
 pub T-and : (a b : Bool) → T (a && b) ↔ (T a × T b)
@@ -80,16 +81,6 @@ last-or-below {k} {n} h = go (equal? k n)
     go : (k ≡ n) ⊎ T (not (eqb k n)) → (k ≡ n) ⊎ (k < n)
     go (inl e) = inl e
     go (inr f) = let d : k ≡ n → ⊥ = differ k n f in inr (omega arith)
-
--- p at every number below n
-unfoldable pub allBelow : ℕ → (ℕ → Bool) → Bool
-allBelow zero p = true
-allBelow (suc n) p = allBelow n p && p n
-
--- p at some number below n
-unfoldable pub anyBelow : ℕ → (ℕ → Bool) → Bool
-anyBelow zero p = false
-anyBelow (suc n) p = anyBelow n p || p n
 
 -- What holds of every number below n, and of n, holds of every number below `suc n`.
 last : (P : ℕ → Type 0) (n : ℕ) → ((k : ℕ) → k < n → P k) → P n → (k : ℕ) → k < suc n → P k

@@ -2,7 +2,6 @@
 -- one operand and one for those over two. Each takes what is known of the operands wherever their variables stand.
 --
 --     Says                   below n a test of stages says A
---     Stand                  every variable stands at a stage
 --     Tells                  the test of a formula says what P says of it
 --     and-tells, or-tells, modal-tells, modal₂-tells
 use Prim.Native.Nat.{ℕ, _<_}
@@ -12,15 +11,11 @@ use lib.Dec.{T, eqb}
 use Rattle.model.specs.Graph.{Graph}
 use Rattle.model.specs.Formula.{Formula, Env, pick, bind, value, Term, stage, variable, TermBelow, Below}
 use Rattle.logic.proofs.Booleans.{and-says, or-says}
-use Rattle.logic.proofs.Test.{Stages, test}
+use Rattle.logic.specs.Test.{Stages, test, Stand}
 
 -- Below n the test a says A.
 pub record Says (n : ℕ) (a : Stages) (A : ℕ → Type 0) : Type 0 where
   pub at : (s : ℕ) → s < n → T (a s) ↔ A s
-
--- Every variable stands at a stage below n.
-abbrev pub Stand : ℕ → Env → Type 0
-Stand n e = (v : ℕ) → e v < n
 
 -- They do so still, where one is bound to a stage.
 pub bind-stands : {n : ℕ} {e : Env} → Stand n e → (x : ℕ) {s : ℕ} → s < n → Stand n (bind e x s)

@@ -17,10 +17,9 @@ use Rattle.model.specs.Formula.{Term, Atom, Formula, truth, falsity, is, isNot,
 use Rattle.model.specs.Formula.{Under, Free, nesting, TermBelow, Below}
 use Rattle.logic.specs.Meaning.{Holds}
 use Rattle.logic.proofs.Booleans.{T-not, decide, not-and, not-or, not-not}
-use Rattle.logic.proofs.Test.{Stages, outside, eachNext, someNext, releaseOrEach, hereAndSome, eg, af, ar, eu, test}
+use Rattle.logic.specs.Test.{Stages, outside, eachNext, someNext, releaseOrEach, hereAndSome, eg, af, ar, eu, test, Stand}
 use Rattle.logic.proofs.Rounds.{flip}
 use Rattle.logic.proofs.Successors.{not-some-next, not-each-next}
-use Rattle.logic.proofs.Compare.{Stand}
 use Rattle.logic.proofs.TestMeaning.{test-holds}
 
 -- The dual of the dual is the formula.

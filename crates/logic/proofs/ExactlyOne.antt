@@ -2,9 +2,9 @@
 use mathlib.Core.Logic.{_⊎_, ⊎-map}
 use Rattle.model.specs.Graph.{Graph, Readable}
 use Rattle.model.specs.Formula.{Formula, Env, dual, Below}
+use Rattle.logic.specs.Test.{Stand}
 use Rattle.logic.specs.Meaning.{Holds}
 use Rattle.logic.specs.Rules.{Derived}
-use Rattle.logic.proofs.Compare.{Stand}
 use Rattle.logic.proofs.Duality.{dual-below, dual-holds, holds-or-dual}
 use Rattle.logic.proofs.Sound.{sound}
 use Rattle.logic.proofs.Complete.{complete}

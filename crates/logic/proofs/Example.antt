@@ -14,9 +14,8 @@ use Rattle.model.specs.Graph.{Graph, Next, Readable}
 use Rattle.model.specs.Formula.{Formula, truth, is, AF, EU, variable, one, Env, dual}
 use Rattle.logic.specs.Meaning.{Holds}
 use Rattle.logic.specs.Rules.{stopOne, goOne, Derived}
-use Rattle.logic.proofs.Booleans.{T-and, T-or, allBelow, anyBelow}
-use Rattle.logic.proofs.Test.{iter, eachNext, someNext}
-use Rattle.logic.proofs.Compare.{Stand}
+use Rattle.logic.proofs.Booleans.{T-and, T-or}
+use Rattle.logic.specs.Test.{iter, eachNext, someNext, Stand, allBelow, anyBelow}
 use Rattle.logic.proofs.TestMeaning.{test-holds}
 use Rattle.logic.proofs.Duality.{dual-holds}
 

@@ -1,6 +1,5 @@
 -- The executable test of a formula, and what is shown through it: the meaning over paths, the path-trees and the rules say the same.
 pub mod Booleans
-pub mod Test
 pub mod Rounds
 pub mod Walks
 pub mod Compare

@@ -11,8 +11,8 @@ use mathlib.Core.Path.{_≡_, sym, ap, _∙_, subst, fun-ext}
 use mathlib.Core.Bool.{false, not, _&&_, _||_}
 use mathlib.Core.Logic.{_↔_, _⊎_, inl, inr, ⊎-elim}
 use lib.Dec.{T}
-use Rattle.logic.proofs.Booleans.{T-and, T-or, T-not, decide, anyBelow, any-below, not-and, not-not, count, count-max, count-lt}
-use Rattle.logic.proofs.Test.{Stages, outside, shrink, grow, iter}
+use Rattle.logic.proofs.Booleans.{T-and, T-or, T-not, decide, any-below, not-and, not-not, count, count-max, count-lt}
+use Rattle.logic.specs.Test.{Stages, outside, shrink, grow, iter, anyBelow}
 
 -- Below n, every stage of x is in y.
 abbrev pub Within : ℕ → Stages → Stages → Type 0

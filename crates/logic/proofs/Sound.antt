@@ -1,9 +1,9 @@
 -- Soundness: what the rules derive holds.
 use Rattle.model.specs.Graph.{Graph, Readable}
 use Rattle.model.specs.Formula.{Formula, Env, Below}
+use Rattle.logic.specs.Test.{Stand}
 use Rattle.logic.specs.Meaning.{Holds}
 use Rattle.logic.specs.Rules.{Derived}
-use Rattle.logic.proofs.Compare.{Stand}
 use Rattle.logic.proofs.TestMeaning.{test-holds}
 use Rattle.logic.proofs.TestRules.{test-derived}
 

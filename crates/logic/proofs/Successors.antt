@@ -14,9 +14,9 @@ use mathlib.Core.Logic.{_↔_, _⊎_, inl, inr, ⊎-elim}
 use lib.Dec.{T}
 use Rattle.model.specs.Graph.{Graph, Readable}
 use Rattle.logic.specs.Meaning.{AtEachNext, AtSomeNext}
-use Rattle.logic.proofs.Booleans.{T-and, T-or, T-not, decide, allBelow, anyBelow, all-below, any-below, not-and, not-or, not-not, none-below}
+use Rattle.logic.proofs.Booleans.{T-and, T-or, T-not, decide, all-below, any-below, not-and, not-or, not-not, none-below}
 use Rattle.logic.proofs.Booleans.{not-all-below, all-below-same, any-below-same}
-use Rattle.logic.proofs.Test.{Stages, outside, eachNext, someNext, releaseOrEach, hereAndSome, eg, af, ar, eu}
+use Rattle.logic.specs.Test.{Stages, outside, eachNext, someNext, releaseOrEach, hereAndSome, eg, af, ar, eu, allBelow, anyBelow}
 use Rattle.logic.proofs.Rounds.{Monotone, shrunk, grown, shrink-start, grow-start}
 
 -- Sets that are the same below n have the same stages with every successor, and with some successor, in them.

@@ -16,10 +16,10 @@ use Rattle.model.specs.Formula.{Formula, truth, falsity, is, isNot, and, or, AX
 use Rattle.model.specs.Formula.{Below}
 use Rattle.logic.specs.Meaning.{Path, AtEachNext, AtSomeNext, OnEachOnce, OnSomeAlways, OnEachReleased, OnSomeUntil, Holds}
 use Rattle.logic.proofs.Booleans.{T-and, T-or, T-not, decide}
-use Rattle.logic.proofs.Test.{Stages, eachNext, someNext, releaseOrEach, hereAndSome, eg, af, ar, eu, test}
+use Rattle.logic.specs.Test.{Stages, eachNext, someNext, releaseOrEach, hereAndSome, eg, af, ar, eu, test, Stand}
 use Rattle.logic.proofs.Walks.{MergesOrStays, Stops, GoesOn, kept, reached}
 use Rattle.logic.proofs.Successors.{each-next, some-next, missing, eg-on, ar-on, af-now, af-later, eu-now, eu-later}
-use Rattle.logic.proofs.Compare.{Says, Stand, and-tells, or-tells, modal-tells, modal₂-tells}
+use Rattle.logic.proofs.Compare.{Says, and-tells, or-tells, modal-tells, modal₂-tells}
 use Rattle.logic.proofs.Paths.{rest, second, before, endless, stands, starts, some-path}
 
 module _ {G : Graph} (R : Readable G) (a : Stages) (A : ℕ → Type 0) (says : Says (G .stages) a A) where

@@ -12,10 +12,10 @@ use Rattle.model.specs.Formula.{Formula, truth, falsity, is, isNot, and, or, AX
 use Rattle.logic.specs.Meaning.{AtEachNext, AtSomeNext}
 use Rattle.logic.specs.Rules.{Walk, empty, also, stopOne, goOne, stopEach, goEach, AFwalk, EGwalk, ARwalk, EUwalk, Derived}
 use Rattle.logic.proofs.Booleans.{T-and, T-or}
-use Rattle.logic.proofs.Test.{Stages, eachNext, someNext, releaseOrEach, hereAndSome, eg, af, ar, eu, test}
+use Rattle.logic.specs.Test.{Stages, eachNext, someNext, releaseOrEach, hereAndSome, eg, af, ar, eu, test, Stand}
 use Rattle.logic.proofs.Walks.{MergesOrStays, GoesInside, Stops, GoesOn, kept, merged, reached}
 use Rattle.logic.proofs.Successors.{each-next, some-next, eg-on, ar-on, af-now, af-later, eu-now, eu-later}
-use Rattle.logic.proofs.Compare.{Says, Stand, and-tells, or-tells, modal-tells, modal₂-tells}
+use Rattle.logic.proofs.Compare.{Says, and-tells, or-tells, modal-tells, modal₂-tells}
 use Rattle.logic.proofs.TestMeaning.{ax-means, ex-means}
 
 module _ {G : Graph} (R : Readable G) (a : Stages) (A : ℕ → Type 0) (says : Says (G .stages) a A) where

@@ -14,10 +14,10 @@ use Rattle.logic.specs.Trees.{FinitePath, start, then, FiniteTree, leaf,
 use Rattle.logic.specs.Trees.{SomeFinitePath, Valid}
 use Rattle.logic.specs.Rules.{Walk}
 use Rattle.logic.proofs.Booleans.{T-and, T-or, T-not, decide}
-use Rattle.logic.proofs.Test.{Stages, eachNext, someNext, releaseOrEach, hereAndSome, eg, af, ar, eu, test}
+use Rattle.logic.specs.Test.{Stages, eachNext, someNext, releaseOrEach, hereAndSome, eg, af, ar, eu, test, Stand}
 use Rattle.logic.proofs.Walks.{MergesOrStays, Stops, GoesOn, kept, reached}
 use Rattle.logic.proofs.Successors.{each-next, some-next, ar-on, af-now, af-later, eu-now, eu-later}
-use Rattle.logic.proofs.Compare.{Says, Stand, and-tells, or-tells, modal-tells, modal₂-tells}
+use Rattle.logic.proofs.Compare.{Says, and-tells, or-tells, modal-tells, modal₂-tells}
 use Rattle.logic.proofs.TestMeaning.{ax-means, ex-means, eg-means, test-holds}
 
 module _ {G : Graph} (R : Readable G) (a : Stages) (A : ℕ → Type 0) (says : Says (G .stages) a A) where

@@ -15,7 +15,7 @@ use Rattle.model.specs.Formula.{Formula, truth, falsity, is, isNot, and, or, AX
 use Rattle.model.specs.Formula.{bind, value, atom, Names, FreeInAtom, Under, Free}
 use Rattle.logic.specs.Meaning.{AtEachNext, AtSomeNext, OnEachOnce, OnSomeAlways, OnEachReleased, OnSomeUntil, Holds}
 use Rattle.logic.proofs.Booleans.{differ}
-use Rattle.logic.proofs.Test.{eachNext, someNext, eg, af, ar, eu, test}
+use Rattle.logic.specs.Test.{eachNext, someNext, eg, af, ar, eu, test}
 
 -- e and c agree on the variables in F.
 abbrev pub Agree : (ℕ → Type 0) → Env → Env → Type 0

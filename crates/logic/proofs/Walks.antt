@@ -14,7 +14,7 @@ use mathlib.Core.Logic.{_⊎_, inl, inr, ⊎-elim}
 use lib.Dec.{T, eqb, eqb→eq, eqb-refl}
 use Rattle.logic.specs.Rules.{Walk, empty, also, On, Off}
 use Rattle.logic.proofs.Booleans.{T-or, T-not, decide, count, count-max, count-lt}
-use Rattle.logic.proofs.Test.{Stages, outside, shrink, grow, iter}
+use Rattle.logic.specs.Test.{Stages, outside, shrink, grow, iter}
 use Rattle.logic.proofs.Rounds.{Within, shrink-is, grow-is}
 
 -- What is on the walk with s added is s or was on the walk.

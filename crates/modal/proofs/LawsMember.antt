@@ -23,7 +23,7 @@ use borrow.Author.Tests.{eq-eqb, ne-eqb}
 use Rattle.model.specs.Decides.{Decides}
 use Rattle.model.specs.Graph.{Graph}
 use Rattle.logic.proofs.Booleans.{T-not, and-says, or-says, same-test}
-use Rattle.logic.proofs.Test.{Stages}
+use Rattle.logic.specs.Test.{Stages}
 use Rattle.sets.specs.Member.{bit, Has, Within, Empty}
 use Rattle.sets.specs.Number.{width}
 use Rattle.sets.proofs.LawsBit.{bit-below}

@@ -19,7 +19,7 @@ use lib.Dec.{T}
 use Rattle.model.specs.Graph.{Graph}
 use Rattle.logic.proofs.Booleans.{T-and, T-not, and-says, any-below}
 use Rattle.logic.proofs.Successors.{not-each-next}
-use Rattle.logic.proofs.Test.{Stages, outside, someNext, eachNext}
+use Rattle.logic.specs.Test.{Stages, outside, someNext, eachNext}
 use Rattle.sets.specs.Member.{Has, Empty}
 use Rattle.sets.specs.Number.{single}
 use Rattle.sets.specs.Row.{held}

@@ -13,7 +13,7 @@ use Prim.Native.Nat.{ℕ, _≤_}
 use lib.Dec.{T}
 use Rattle.model.specs.Graph.{Graph}
 use Rattle.logic.proofs.Successors.{some-next-same, each-next-same}
-use Rattle.logic.proofs.Test.{Stages, someNext, eachNext, eg, af, ar, eu}
+use Rattle.logic.specs.Test.{Stages, someNext, eachNext, eg, af, ar, eu}
 use Rattle.sets.specs.declared.Set.{Set}
 use Rattle.sets.specs.Member.{Within}
 use Rattle.sets.specs.Number.{number, width}

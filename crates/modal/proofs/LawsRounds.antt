@@ -19,7 +19,7 @@ use native.Mathlib.Omega.{arith}
 use lib.Bits.{bitAnd, bitOr}
 use Rattle.model.specs.Graph.{Graph}
 use Rattle.logic.proofs.Successors.{some-next-same, each-next-same}
-use Rattle.logic.proofs.Test.{Stages, iter}
+use Rattle.logic.specs.Test.{Stages, iter}
 use Rattle.sets.proofs.LawsMember.{side?}
 use Rattle.modal.specs.Row.{member, Inside, Computes}
 use Rattle.modal.specs.Rounds.{step, round, rounds, readyOn, roundOn, afterOn, roundsOn}

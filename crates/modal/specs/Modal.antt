@@ -1,7 +1,7 @@
 -- The six modalities of sets that are numbers, as the crate `logic` tests them (`Test`): what a result is held to in `Computes`.
 use Prim.Native.Nat.{ℕ}
 use Rattle.model.specs.Graph.{Graph}
-use Rattle.logic.proofs.Test.{Stages, someNext, eachNext, eg, af, ar, eu}
+use Rattle.logic.specs.Test.{Stages, someNext, eachNext, eg, af, ar, eu}
 use Rattle.modal.specs.Row.{member}
 
 -- EX: some successor is in a.

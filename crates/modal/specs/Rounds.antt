@@ -6,7 +6,7 @@
 use Prim.Native.Nat.{ℕ}
 use mathlib.Core.Bool.{_&&_, _||_}
 use Rattle.model.specs.Graph.{Graph}
-use Rattle.logic.proofs.Test.{Stages, shrink, grow, iter, someNext, eachNext}
+use Rattle.logic.specs.Test.{Stages, shrink, grow, iter, someNext, eachNext}
 use Rattle.modal.specs.Row.{member}
 use Rattle.modal.specs.declared.Which.{Which}
 use Rattle.modal.specs.declared.Which.the-variants.{Some, Each}

@@ -6,7 +6,7 @@ use mathlib.Core.Logic.{_↔_}
 use lib.Bits.{bitAnd}
 use lib.Dec.{eqb}
 use Rattle.model.specs.Graph.{Graph}
-use Rattle.logic.proofs.Test.{Stages}
+use Rattle.logic.specs.Test.{Stages}
 use Rattle.sets.specs.Member.{bit, Has, Empty}
 use Rattle.sets.specs.Number.{width}
 use Rattle.sets.specs.Row.{held}

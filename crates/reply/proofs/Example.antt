@@ -14,8 +14,7 @@ use mathlib.Core.List.{List, [], _∷_, _++_, map}
 use mathlib.Core.Logic.{_⊎_, inl, inr}
 use lib.Dec.{lit≤}
 use lib.ListN.{length, drop}
-use Rattle.logic.proofs.Booleans.{anyBelow, allBelow}
-use Rattle.logic.proofs.Test.{iter, someNext, eachNext}
+use Rattle.logic.specs.Test.{iter, someNext, eachNext, allBelow, anyBelow}
 use Rattle.sets.specs.Number.{stored}
 use Rattle.format.specs.Refusal.{Given, Clear}
 use Rattle.format.specs.Image.{firstSet}

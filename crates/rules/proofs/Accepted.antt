@@ -18,8 +18,7 @@ use Rattle.model.specs.Graph.{Graph, Readable}
 use Rattle.model.specs.Formula.{Formula, truth, falsity, is, isNot, and, or, AX, EX, AF, EG, AR, EU, Env, bind, value, atom, dual, Below}
 use Rattle.logic.specs.Rules.{empty, Derived}
 use Rattle.logic.proofs.Booleans.{count, count-max}
-use Rattle.logic.proofs.Test.{outside}
-use Rattle.logic.proofs.Compare.{Stand}
+use Rattle.logic.specs.Test.{outside, Stand}
 use Rattle.logic.proofs.ExactlyOne.{one-side, not-both}
 use Rattle.rules.specs.Kind.{Kind}
 use Rattle.rules.specs.Spelled.{Spelled}

@@ -19,7 +19,7 @@ use Rattle.model.specs.Graph.{Graph, Next, Readable}
 use Rattle.model.specs.Formula.{Formula, truth, falsity, is, isNot, and, or, AX, EX, AF, EG, AR, EU, Env, bind}
 use Rattle.logic.specs.Rules.{Walk, also, Off}
 use Rattle.logic.proofs.Booleans.{count, decide, T-not}
-use Rattle.logic.proofs.Test.{outside}
+use Rattle.logic.specs.Test.{outside}
 use Rattle.logic.proofs.Walks.{fewer-off}
 use Rattle.rules.specs.Kind.{Kind, number}
 use Rattle.rules.specs.Table.{row, body, begin, some, kindFor, Part}

@@ -18,7 +18,8 @@ use mathlib.Core.Logic.{_⊎_, inl, inr, ⊎-elim}
 use lib.Dec.{T, ltb, eqb, eqb→eq, ltb→lt, nltb→le}
 use lib.ListN.{length, getD, List·getD-eq-default}
 use borrow.Author.Tests.{lt-ltb, le-ltb, eq-eqb, ne-eqb}
-use Rattle.logic.proofs.Booleans.{allBelow, all-below, decide, equal?, differ}
+use Rattle.logic.specs.Test.{allBelow}
+use Rattle.logic.proofs.Booleans.{all-below, decide, equal?, differ}
 use Rattle.rules.specs.Kind.{Kind, number}
 use Rattle.rules.specs.Table.{row, begin, rules, ruleOf, kindFor, some, takes}
 use Rattle.rules.specs.Spelled.{Spelled}

@@ -16,7 +16,7 @@ use lib.ListN.{getD}
 use Rattle.model.specs.Graph.{Graph, Next, Readable}
 use Rattle.logic.specs.Rules.{Walk, also, Off}
 use Rattle.logic.proofs.Booleans.{count}
-use Rattle.logic.proofs.Test.{outside}
+use Rattle.logic.specs.Test.{outside}
 use Rattle.logic.proofs.Walks.{fewer-off}
 use Rattle.rules.specs.Kind.{Kind, number}
 use Rattle.rules.specs.Table.{row, body, begin, Part}

@@ -19,8 +19,7 @@ use lib.ListN.{length}
 use Rattle.model.specs.Graph.{Readable}
 use Rattle.model.specs.Formula.{pick, dual, Below}
 use Rattle.logic.specs.Meaning.{Holds}
-use Rattle.logic.proofs.Compare.{Stand}
-use Rattle.logic.proofs.Test.{test}
+use Rattle.logic.specs.Test.{test, Stand}
 use Rattle.logic.proofs.TestMeaning.{test-holds}
 use Rattle.logic.proofs.Duality.{dual-holds}
 use Rattle.sets.specs.Number.{width}

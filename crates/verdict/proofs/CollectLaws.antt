@@ -20,7 +20,7 @@ use lib.Dec.{T}
 use borrow.Author.Tests.{eq-eqb, ne-eqb}
 use Rattle.model.specs.Decides.{Decides}
 use Rattle.model.specs.Graph.{Graph}
-use Rattle.logic.proofs.Test.{Stages}
+use Rattle.logic.specs.Test.{Stages}
 use Rattle.sets.specs.Member.{bit, Has, Within}
 use Rattle.sets.specs.Number.{single, width}
 use Rattle.sets.proofs.LawsMember.{same?, has-test, has-and, has-with, within-antisym}

@@ -14,7 +14,7 @@ use mathlib.Core.Logic.{_⊎_, inr, ⊎-elim, _↔_, Iff·rfl}
 use Rattle.model.specs.Decides.{Decides}
 use Rattle.model.specs.Graph.{Graph}
 use Rattle.model.specs.Formula.{Formula, and, or, AX, EX, AF, EG, AR, EU, Env, bind, value, atom, Under, Free}
-use Rattle.logic.proofs.Test.{Stages, test}
+use Rattle.logic.specs.Test.{Stages, test}
 use Rattle.format.specs.Table.{recordAt, kindOf, sortOf, RuledAs, Ruled, termOf, atomOf, madeAs, made, nth, trees, treeOf}
 use Rattle.format.specs.declared.record.Record.{Record}
 use Rattle.format.specs.declared.record.Kind.{Kind}

@@ -18,8 +18,8 @@ use mathlib.Core.List.{List}
 use Rattle.model.specs.Decides.{Decides}
 use Rattle.model.specs.Formula.{bind, value, atom}
 use Rattle.model.specs.Formula.{Env as Environment}
-use Rattle.logic.proofs.Compare.{Stand, bind-stands}
-use Rattle.logic.proofs.Test.{Stages, test}
+use Rattle.logic.proofs.Compare.{bind-stands}
+use Rattle.logic.specs.Test.{Stages, test, Stand}
 use Rattle.sets.specs.Member.{Has}
 use Rattle.modal.specs.Row.{member, Computes}
 use Rattle.format.specs.Image.{stagesOf, graphOf}

@@ -9,8 +9,7 @@
 use Prim.Native.Nat.{ℕ}
 use mathlib.Core.Path.{_≡_, refl}
 use mathlib.Core.List.{List, [], _∷_}
-use Rattle.logic.proofs.Booleans.{allBelow, anyBelow}
-use Rattle.logic.proofs.Test.{iter, eachNext, someNext}
+use Rattle.logic.specs.Test.{iter, eachNext, someNext, allBelow, anyBelow}
 use Rattle.sets.specs.Number.{stored}
 use Rattle.format.specs.Image.{firstSet}
 use Rattle.format.specs.Table.{operands, trees}

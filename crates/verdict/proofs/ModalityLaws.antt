@@ -14,7 +14,7 @@ use borrow.Author.Tests.{ne-eqb}
 use Rattle.model.specs.Decides.{Decides}
 use Rattle.model.specs.Graph.{Graph}
 use Rattle.model.specs.Formula.{Formula, truth, falsity, is, isNot, and, or, AX, EX, AF, EG, AR, EU, Env, pick, bind, Under, Free}
-use Rattle.logic.proofs.Test.{Stages, test}
+use Rattle.logic.specs.Test.{Stages, test}
 use Rattle.logic.proofs.Variables.{test-same}
 use Rattle.sets.specs.Member.{Has}
 use Rattle.modal.proofs.LawsMember.{Agree}

@@ -16,7 +16,7 @@ use mathlib.Core.List.{List}
 use mathlib.Core.Logic.{_↔_, Iff·trans, ⊎-elim}
 use Rattle.model.specs.Formula.{Formula, Env, dual, Free}
 use Rattle.logic.specs.Meaning.{Holds}
-use Rattle.logic.proofs.Test.{Stages}
+use Rattle.logic.specs.Test.{Stages}
 use Rattle.logic.proofs.Duality.{dual-free, dual-holds}
 use Rattle.logic.proofs.Variables.{holds-start}
 use Rattle.sets.specs.declared.Set.{Set}

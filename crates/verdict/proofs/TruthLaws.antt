@@ -9,7 +9,7 @@ use mathlib.Core.Bool.{Bool, true, false, Bool·beq}
 use mathlib.Core.List.{List}
 use lib.Dec.{T}
 use Rattle.model.specs.Formula.{atom}
-use Rattle.logic.proofs.Test.{test}
+use Rattle.logic.specs.Test.{test}
 use Rattle.format.specs.Image.{graphOf}
 use Rattle.format.specs.Table.{kindOf}
 use Rattle.format.specs.declared.record.Record.{Record}

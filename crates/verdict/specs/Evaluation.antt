@@ -5,8 +5,7 @@ use mathlib.Core.Bool.{Bool}
 use mathlib.Core.List.{List}
 use Rattle.model.specs.Formula.{bind, value, atom}
 use Rattle.model.specs.Formula.{Env as Environment}
-use Rattle.logic.proofs.Compare.{Stand}
-use Rattle.logic.proofs.Test.{Stages, test}
+use Rattle.logic.specs.Test.{Stages, test, Stand}
 use Rattle.modal.specs.Row.{member, Row, Inside}
 use Rattle.format.specs.Image.{setOf, graphOf}
 use Rattle.format.specs.Table.{entriesOf, recordAt, Ruled, termOf, atomOf, treeOf}

@@ -3,7 +3,7 @@ use Prim.Native.Nat.{ℕ}
 use mathlib.Core.Bool.{Bool, true, false, not, _&&_, _||_}
 use lib.Bits.{bitAnd, bitOr}
 use Rattle.model.specs.Graph.{Graph}
-use Rattle.logic.proofs.Test.{Stages, eachNext, someNext, af, eg, ar, eu}
+use Rattle.logic.specs.Test.{Stages, eachNext, someNext, af, eg, ar, eu}
 use Rattle.modal.specs.Row.{member}
 use Rattle.format.specs.declared.record.Kind.{Kind}
 use Rattle.format.specs.declared.record.Kind.the-variants as K

@@ -5,7 +5,7 @@ use mathlib.Core.Bool.{Bool}
 use mathlib.Core.List.{List}
 use Rattle.model.specs.Formula.{dual}
 use Rattle.logic.specs.Meaning.{Holds}
-use Rattle.logic.proofs.Test.{test}
+use Rattle.logic.specs.Test.{test}
 use Rattle.format.specs.Refusal.{number, Given, Clear}
 use Rattle.format.specs.Image.{graphOf}
 use Rattle.format.specs.Table.{treeOf}

@@ -14,7 +14,7 @@ use mathlib.Core.Logic.{inl}
 use lib.ListN.{length, drop}
 use lib.Seq.{sets-eq}
 use Rattle.model.specs.Formula.{Env}
-use Rattle.logic.proofs.Test.{test}
+use Rattle.logic.specs.Test.{test}
 use Rattle.format.specs.Refusal.{Clear}
 use Rattle.format.specs.Image.{graphOf}
 use Rattle.format.specs.Table.{treeOf}

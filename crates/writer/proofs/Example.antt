@@ -3,8 +3,7 @@
 use Prim.Native.Nat.{ℕ}
 use mathlib.Core.Path.{_≡_, refl, subst}
 use mathlib.Core.List.{List, [], _∷_, _++_, map}
-use Rattle.logic.proofs.Booleans.{anyBelow, allBelow}
-use Rattle.logic.proofs.Test.{iter, someNext, eachNext}
+use Rattle.logic.specs.Test.{iter, someNext, eachNext, allBelow, anyBelow}
 use Rattle.sets.specs.Number.{stored}
 use Rattle.format.specs.Image.{firstSet}
 use Rattle.format.specs.Table.{operands, trees}

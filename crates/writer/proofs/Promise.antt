@@ -27,7 +27,7 @@ use lib.ListN.{length, take, drop, length-append, length-drop}
 use lib.Seq.{take-at, drop-at}
 use Rattle.model.specs.Formula.{Env}
 use Rattle.logic.specs.Meaning.{Holds}
-use Rattle.logic.proofs.Test.{test}
+use Rattle.logic.specs.Test.{test}
 use Rattle.logic.proofs.TestMeaning.{test-holds}
 use Rattle.logic.proofs.Duality.{test-dual}
 use Rattle.format.specs.Refusal.{Condition, Given, Clear}

@@ -19,8 +19,9 @@ use lib.ListN.{getD}
 use borrow.Author.Tests.{eq-eqb, ne-eqb}
 use Rattle.model.specs.Graph.{Graph}
 use Rattle.model.specs.Formula.{Formula, truth, falsity, is, isNot, and, or, AX, EX, AF, EG, AR, EU, Env, value, Below}
+use Rattle.logic.specs.Test.{Stand}
 use Rattle.logic.specs.Rules.{Walk, empty, also}
-use Rattle.logic.proofs.Compare.{Stand, term-stands}
+use Rattle.logic.proofs.Compare.{term-stands}
 use Rattle.sets.specs.Member.{bit, Has}
 use Rattle.sets.specs.Number.{single, width}
 use Rattle.sets.proofs.LawsBit.{bit-zero}

@@ -18,8 +18,8 @@ use Rattle.model.specs.Formula.{Formula, or, EX, AF, EG, AR, EU, Env, bind, val
 use Rattle.logic.specs.Meaning.{AtSomeNext, Holds}
 use Rattle.logic.specs.Rules.{Walk, On, Off}
 use Rattle.logic.proofs.Booleans.{T-not, differ}
-use Rattle.logic.proofs.Test.{Stages, eg, test}
-use Rattle.logic.proofs.Compare.{Says, Stand, bind-stands}
+use Rattle.logic.specs.Test.{Stages, eg, test, Stand}
+use Rattle.logic.proofs.Compare.{Says, bind-stands}
 use Rattle.logic.proofs.Successors.{eg-on}
 use Rattle.logic.proofs.TestMeaning.{test-holds, eg-means, eu-means}
 use Rattle.rules.specs.Kind.{Kind}

@@ -19,8 +19,8 @@ use Rattle.model.specs.Formula.{Formula, truth, falsity, is, isNot, and, or, AX
 use Rattle.model.specs.Formula.{TermBelow, Below}
 use Rattle.logic.specs.Meaning.{Holds}
 use Rattle.logic.specs.Rules.{empty, Derived}
-use Rattle.logic.proofs.Test.{Stages, eachNext, someNext, eg, af, ar, eu, test}
-use Rattle.logic.proofs.Compare.{Stand, bind-stands, term-stands}
+use Rattle.logic.specs.Test.{Stages, eachNext, someNext, eg, af, ar, eu, test, Stand}
+use Rattle.logic.proofs.Compare.{bind-stands, term-stands}
 use Rattle.logic.proofs.TestMeaning.{test-holds}
 use Rattle.logic.proofs.Duality.{dual-below, holds-or-dual}
 use Rattle.rules.specs.Kind.{Kind}

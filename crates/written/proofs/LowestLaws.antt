@@ -22,8 +22,8 @@ use lib.Dec.{T, ltb, ltb→lt, nltb→le}
 use Rattle.model.specs.Graph.{Graph, Next, Readable}
 use Rattle.model.specs.Formula.{pick}
 use Rattle.logic.specs.Meaning.{AtSomeNext}
-use Rattle.logic.proofs.Booleans.{T-and, T-or, T-not, decide, anyBelow, any-below, any-below-same}
-use Rattle.logic.proofs.Test.{Stages, iter, someNext, hereAndSome}
+use Rattle.logic.proofs.Booleans.{T-and, T-or, T-not, decide, any-below, any-below-same}
+use Rattle.logic.specs.Test.{Stages, iter, someNext, hereAndSome, anyBelow}
 use Rattle.logic.proofs.Rounds.{grow-is}
 use Rattle.logic.proofs.Successors.{some-next, some-next-same}
 use Rattle.written.specs.Choice.{lowest, lowestNext, within, fewest, nearest}

@@ -8,8 +8,7 @@ use lib.Dec.{eqb}
 use lib.ListN.{getD, length}
 use Rattle.model.specs.Graph.{Graph}
 use Rattle.model.specs.Formula.{Formula, truth, falsity, is, and, or, AX, EX, EG, AR, variable, one, bind, dual}
-use Rattle.logic.proofs.Booleans.{anyBelow, allBelow}
-use Rattle.logic.proofs.Test.{iter, someNext, eachNext}
+use Rattle.logic.specs.Test.{iter, someNext, eachNext, allBelow, anyBelow}
 use Rattle.logic.proofs.Example.{sequence, canFire, mustFire, armed}
 use Rattle.written.specs.Written.{written}
 

@@ -11,7 +11,7 @@ use mathlib.Core.List.{List, _++_}
 use Rattle.model.specs.Graph.{Graph}
 use Rattle.model.specs.Formula.{Formula, truth, falsity, is, isNot, and, or, AX, EX, AF, EG, AR, EU, Env}
 use Rattle.logic.specs.Rules.{Walk, empty, also}
-use Rattle.logic.proofs.Test.{test}
+use Rattle.logic.specs.Test.{test}
 use Rattle.rules.specs.Kind.{Kind}
 use Rattle.rules.specs.Table.{begin, body}
 use Rattle.rules.specs.Shape

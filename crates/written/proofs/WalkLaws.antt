@@ -19,7 +19,7 @@ use lib.Dec.{T}
 use Rattle.model.specs.Graph.{Graph, Next, Readable}
 use Rattle.logic.specs.Rules.{Walk, empty, also, On, Off, stopOne, goOne, stopEach, goEach}
 use Rattle.logic.proofs.Booleans.{T-and, T-or, T-not, decide, count, count-max}
-use Rattle.logic.proofs.Test.{Stages, outside, iter, eachNext, someNext, eg, af, ar, eu}
+use Rattle.logic.specs.Test.{Stages, outside, iter, eachNext, someNext, eg, af, ar, eu}
 use Rattle.logic.proofs.Walks.{also-is, fewer-off, Merges, GoesInside, Stops, GoesOn, merged, reached}
 use Rattle.logic.proofs.Successors.{each-next, some-next, eg-on, ar-on}
 use Rattle.rules.specs.Kind.{Kind}

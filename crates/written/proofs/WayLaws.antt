@@ -11,7 +11,7 @@ use mathlib.Core.Path.{_≡_, subst}
 use mathlib.Core.Logic.{_↔_, _⊎_, inl, inr, ⊎-elim}
 use lib.Dec.{T}
 use Rattle.model.specs.Graph.{Graph, Next, Readable}
-use Rattle.logic.proofs.Test.{Stages, iter, eu}
+use Rattle.logic.specs.Test.{Stages, iter, eu}
 use Rattle.logic.proofs.Successors.{some-next}
 use Rattle.logic.proofs.Compare.{Says}
 use Rattle.written.specs.Choice.{within, fewest, nearest}

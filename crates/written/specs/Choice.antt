@@ -5,8 +5,7 @@ use mathlib.Core.Bool.{Bool, true, false, _&&_}
 use Rattle.model.specs.Graph.{Graph}
 use Rattle.model.specs.Formula.{pick}
 use Rattle.logic.specs.Rules.{Walk, on}
-use Rattle.logic.proofs.Test.{Stages, iter, someNext, eu-round, eg}
-use Rattle.logic.proofs.Booleans.{anyBelow}
+use Rattle.logic.specs.Test.{Stages, iter, someNext, eu-round, eg, anyBelow}
 use Rattle.rules.specs.Kind.{Kind}
 use Rattle.rules.specs.declared.Rule.{Rule}
 

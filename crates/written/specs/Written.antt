@@ -9,7 +9,7 @@ use mathlib.Core.List.{List, [], _++_}
 use Rattle.model.specs.Graph.{Graph}
 use Rattle.model.specs.Formula.{Formula, truth, falsity, is, isNot, and, or, AX, EX, AF, EG, AR, EU, Env, bind}
 use Rattle.logic.specs.Rules.{Walk, empty, also}
-use Rattle.logic.proofs.Test.{Stages, test}
+use Rattle.logic.specs.Test.{Stages, test}
 use Rattle.rules.specs.Kind.{Kind}
 use Rattle.rules.specs.Table.{begin, body, Part, a, b, again, Premise, here, there, each, Premises, none, only, both}
 use Rattle.rules.specs.Shape.{shape}

@@ -7,7 +7,7 @@ use mathlib.Core.List.{List}
 use native.Mathlib.Omega.{arith}
 use borrow.Author.Needs.{needs}
 use Rattle.model.specs.Graph.{Graph}
-use Rattle.logic.proofs.Test.{Stages}
+use Rattle.logic.specs.Test.{Stages}
 use Rattle.sets.specs.Number.{number}
 use Rattle.format.specs.Table.{sortOf, RuledAs}
 use Rattle.format.specs.declared.record.Kind.{Kind}

@@ -1,6 +1,9 @@
--- The executable test of a formula, and no theorem. Meaning, path-trees and rules are each compared with it (`TestMeaning`, `TreesMeaning`,
--- `Sound`, `Complete`) and so with one another, and code that computes with sets of stages is compared with its rounds.
+-- The executable test of a formula, and no theorem. It is no part of what document 01 says: meaning, path-trees and rules are each compared with it
+-- (`proofs/TestMeaning`, `TreesMeaning`, `Sound`, `Complete`) and so with one another, and code that computes with sets of stages is compared with its
+-- rounds.
 --
+--     allBelow, anyBelow                      a test at every number below n, at some number below n
+--     Stand                                   every variable stands at a stage
 --     Stages                                  a set of stages, as a test
 --     eachNext, someNext                      the stages with every successor, with some successor, in a set
 --     shrink, grow, iter                      a round, which only removes or only adds stages, and k rounds
@@ -8,11 +11,24 @@
 --     eg-round, af-round, ar-round, eu-round  the round of each modality
 --     eg, af, ar, eu                          as many rounds as there are stages
 --     test                                    whether a formula holds
-use Prim.Native.Nat.{ℕ, zero, suc}
+use Prim.Native.Nat.{ℕ, zero, suc, _<_}
 use mathlib.Core.Bool.{Bool, true, false, not, _&&_, _||_}
 use Rattle.model.specs.Graph.{Graph}
 use Rattle.model.specs.Formula.{Formula, truth, falsity, is, isNot, and, or, AX, EX, AF, EG, AR, EU, Env, bind, value, atom}
-use Rattle.logic.proofs.Booleans.{allBelow, anyBelow}
+
+-- p at every number below n
+unfoldable pub allBelow : ℕ → (ℕ → Bool) → Bool
+allBelow zero p = true
+allBelow (suc n) p = allBelow n p && p n
+
+-- p at some number below n
+unfoldable pub anyBelow : ℕ → (ℕ → Bool) → Bool
+anyBelow zero p = false
+anyBelow (suc n) p = anyBelow n p || p n
+
+-- Every variable stands at a stage below n.
+abbrev pub Stand : ℕ → Env → Type 0
+Stand n e = (v : ℕ) → e v < n
 
 -- A set of stages, as a test.
 abbrev pub Stages : Type 0
