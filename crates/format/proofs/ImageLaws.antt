@@ -18,7 +18,8 @@ use Rattle.sets.specs.Number.{stored, width}
 use Rattle.sets.specs.Member.{Has, Within}
 use Rattle.sets.proofs.LawsMember.{has?, side?, has-minus, has-below, empty-zero}
 use Rattle.sets.proofs.LawsCount.{ones-some, ones-zero}
-use Rattle.format.specs.Image.{stagesOf, predicatesOf, arityOf, setsFor, firstSet, setOf, setsIn, ArityFits, HighBitIn}
+use Rattle.format.specs.Image.{stagesOf, predicatesOf, arityOf, setsFor, firstSet, setOf, setsIn, ArityFits, HighBitIn, HighBit, DeadStop}
+use Rattle.format.specs.Reading.{Plain}
 
 -- A chosen number is at most a bound of both.
 pub pick-le : (b : Bool) {s t m : ℕ} → s ≤ m → t ≤ m → pick b s t ≤ m
@@ -41,10 +42,11 @@ unfolding firstSet
 first-more image i n-is first-is more-is =
     rw add-one (cc)
 
--- A set whose place is past the end of the image is empty.
-pub past-end : (image : List ℕ) (i : ℕ) → length image / 8 < i → 0 ≡ setOf image i
-unfolding stored
-past-end image i h = simp (lt-leb (7 + predicatesOf image + 8 * i + 8) (length image) (omega arith))
+-- Every stage's successor set is one of the sets.
+pub first-least : (image : List ℕ) (q : ℕ) → stagesOf image ≤ firstSet image q
+unfolding firstSet
+first-least image zero = omega arith
+first-least image (suc q) = omega (arith, first-least image q)
 
 -- An arity byte between 1 and 2.
 pub one-or-two : (a : ℕ) → 1 ≤ a → a ≤ 2 → (a ≡ 1) ⊎ (a ≡ 2)
@@ -94,3 +96,15 @@ some-high image i s all s-is all-is f =
 pub none-high : (image : List ℕ) (i s all : ℕ) → s ≡ setOf image i → ((k : ℕ) → Has all k ↔ (k < stagesOf image)) → Within s all → HighBitIn image i → ⊥
 none-high image i s all s-is all-is w h =
     omega (arith, all-is (h .stage) .0 (w (h .stage) (rw s-is (h .in-set))), h .high)
+
+-- Where no bit n or above is set and not all successor sets are plain, a stage has no successor.
+pub plain-stop : (image : List ℕ) (r : ℕ) → Plain image r → (HighBit image → ⊥) → r < stagesOf image → DeadStop image
+plain-stop image r plain low h =
+    ⊎-elim
+    (λ high. absurd (low (record { set = r; one-of = omega (arith, first-least image (predicatesOf image)); at = high })))
+    (λ none. record { stage = r; below = h; none = none })
+    (plain .stops h)
+
+-- Where all are plain, every stage has one.
+pub plain-all : (image : List ℕ) (r : ℕ) → Plain image r → stagesOf image ≤ r → DeadStop image → ⊥
+plain-all image r plain h stop = plain .some (stop .stage) (omega (arith, stop .below)) (stop .none)

@@ -10,4 +10,5 @@ pub mod Example
 pub mod TreeLaws
 pub mod VariableLaws
 pub mod RuledLaws
+pub mod RootLaws
 pub mod Promise

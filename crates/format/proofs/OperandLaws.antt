@@ -10,7 +10,7 @@ use lib.ListN.{length, getD, set, replicate, length-append, length-set, length-r
 use lib.Seq.{getD-append-seam, getD-set-same, getD-set-other}
 use Rattle.model.specs.Decides.{Decides}
 use Rattle.sets.proofs.LawsMember.{side?, same?}
-use Rattle.format.specs.Table.{Twice, kindOf, sortOf, operandsAs, operandsIn, operands, recordAt, entriesOf, OperandTwice}
+use Rattle.format.specs.Table.{Twice, kindOf, sortOf, operandsAs, operandsIn, operands, recordAt, entriesOf}
 use Rattle.format.specs.Reading.{In, Flagged, Noted, OperandsSmall}
 use Rattle.format.specs.declared.record.Record.{Record}
 use Rattle.format.specs.declared.record.Sort.{Sort}
@@ -175,7 +175,7 @@ unfolding operands
 noted-entry table e r f g r-is p was =
     rw add-one (subst (λ (x : Record). Flagged (operands table e ++ operandsIn x) g) r-is (p (operands table e) was))
 
--- What the flags say at the end.
-pub flagged-all : (table : List ℕ) (e m : ℕ) (f : Flags) → e ≡ m → m ≡ entriesOf table → Flagged (operands table e) f → Decides (f .twice) (OperandTwice table)
-flagged-all table e m f at-end m-is was =
-    subst (λ (k : ℕ). Decides (f .twice) (Twice (operands table k))) (at-end ∙ m-is) (was .twice)
+-- The flags after the last entry are those of all operands.
+pub flagged-all : (table : List ℕ) (e m : ℕ) (f : Flags) → e ≡ m → m ≡ entriesOf table → Flagged (operands table e) f
+    → Flagged (operands table (entriesOf table)) f
+flagged-all table e m f at-end m-is was = subst (λ (k : ℕ). Flagged (operands table k) f) (at-end ∙ m-is) was

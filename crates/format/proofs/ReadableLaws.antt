@@ -17,6 +17,7 @@ use Rattle.format.specs.Refusal.{Clear}
 use Rattle.format.specs.Image.{stagesOf, predicatesOf, arityOf, setsFor, firstSet, setsIn, setOf, member, graphOf, SizesFit, LengthFits, imageConditions}
 use Rattle.format.specs.Table.{entriesOf, recordAt, treeOf, Ruled, EntriesFit, tableConditions, BadRecord, NestedTooDeep}
 use Rattle.format.specs.Question.{setupConditions, goalConditions, questionConditions}
+use Rattle.format.proofs.ImageLaws.{first-least}
 use Rattle.format.proofs.RefusalLaws.{clear-first, clear-later}
 use Rattle.format.proofs.Decision.{sizes-fit?, length-fits?, entries-fit?, ruled?, stable}
 use Rattle.format.proofs.RuledLaws.{ruled-below, ruled-free}
@@ -40,12 +41,6 @@ sizes image clear = stable (sizes-fit? image) (clear .1 .0)
 
 pub entries : (image table : List ℕ) → Clear (tableConditions image table) → EntriesFit table
 entries image table clear = stable (entries-fit? table) (clear .1 .0)
-
--- Every stage's successor set is one of the sets.
-pub first-least : (image : List ℕ) (q : ℕ) → stagesOf image ≤ firstSet image q
-unfolding firstSet
-first-least image zero = omega arith
-first-least image (suc q) = omega (arith, first-least image q)
 
 -- Both halves of a test.
 both-left : (a b : Bool) → T (a && b) → T a

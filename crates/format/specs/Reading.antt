@@ -1,15 +1,23 @@
--- What the parts of the table's reader say, in the words of `Table` and of the model: nothing that document 01 states is defined here.
+-- What the parts of the readers say, in the words of `Image`, `Table` and the model: nothing that document 01 states is defined here.
 use Prim.Native.Nat.{ℕ, _+_, _≤_, _<_}
 use mathlib.Core.Path.{_≡_}
-use mathlib.Core.Logic.{_↔_}
+use mathlib.Core.Logic.{_↔_, _⊎_}
 use mathlib.Core.List.{List, [], _∷_, _++_}
 use lib.ListN.{length, getD}
 use Rattle.model.specs.Decides.{Decides}
 use Rattle.model.specs.Formula.{Formula, Atom, Term, Names, FreeInAtom, Free, nesting}
-use Rattle.sets.specs.Member.{Has}
+use Rattle.sets.specs.Member.{Has, Empty}
 use Rattle.sets.specs.Number.{width}
-use Rattle.format.specs.Table.{Twice, operandsIn, recordAt, entriesOf, trees, nth, treeOf}
+use Rattle.format.specs.Image.{stagesOf, setOf, HighBitIn}
+use Rattle.format.specs.Table.{Twice, operandsIn, operands, recordAt, entriesOf, Ruled, trees, nth, treeOf}
 use Rattle.format.specs.declared.operands.Flags.{Flags}
+
+-- The first r successor sets have a stage each and none at n or above; the next, where there is one, has no stage or one at n or above.
+pub record Plain (image : List ℕ) (r : ℕ) : Type 0 where
+  pub most : r ≤ stagesOf image
+  pub low : (i : ℕ) → i < r → HighBitIn image i → ⊥
+  pub some : (i : ℕ) → i < r → Empty (setOf image i) → ⊥
+  pub stops : r < stagesOf image → HighBitIn image r ⊎ Empty (setOf image r)
 
 -- An entry stands in a row of operands.
 abbrev pub In : ℕ → List ℕ → Type 0
@@ -31,6 +39,16 @@ OperandsSmall row = (i : ℕ) → i < length row → getD row i 0 < 64
 
 abbrev pub AllSmall : List ℕ → Type 0
 AllSmall table = (e : ℕ) → e < entriesOf table → OperandsSmall (operandsIn (recordAt table e))
+
+-- The records keep their rules, and an entry with a flag is operand of one of them.
+pub record Roots (image table seen : List ℕ) : Type 0 where
+  pub ruled : (e : ℕ) → e < entriesOf table → Ruled image e (recordAt table e)
+  pub flagged : (o : ℕ) → o < entriesOf table → getD seen o 0 ≡ 1 → In o (operands table (entriesOf table))
+
+-- An entry without a flag whose formula nests over 4 modalities.
+pub record DeepRoot (image table seen : List ℕ) (e : ℕ) : Type 0 where
+  pub root : getD seen e 0 ≡ 1 → ⊥
+  pub deep : 4 < nesting (treeOf image table e)
 
 -- r modalities nest in an entry's formula, whatever the image; one entry adds at most one.
 pub record Nested (table : List ℕ) (e r : ℕ) : Type 0 where

@@ -7,7 +7,8 @@ ghost use mathlib.Core.Path.{_≡_};
 ghost use Prim.Native.Nat.{_≤_};
 ghost use Rattle.model.specs.Decides.{Decides};
 ghost use Rattle.sets.specs.Number.{number};
-ghost use Rattle.format.specs.Image.{SizesFit, AritiesFit, LengthFits, HighBit, DeadStop, FirstSet, setOf, setsFor};
+ghost use Rattle.format.specs.Image.{SizesFit, AritiesFit, LengthFits, HighBit, FirstSet, setOf, setsFor};
+ghost use Rattle.format.specs.Reading.{Plain};
 ghost use Rattle.format.specs.Answers.{ImageAnswer};
 
 // What the bytes of a readable image say of its layout: n, p, and how many sets there are.
@@ -35,15 +36,17 @@ pub fn read(image: &[u8]) -> Answer
     if !length_fits(image) {
         return Answer::Refused(Refusal::ImageLength);
     }
-    if high_bit(image) {
+    let plain = plain_sets(image);
+    if high_bit(image, plain) {
         return Answer::Refused(Refusal::BitTooHigh);
     }
-    if dead_stop(image) {
+    let n = byte(image, 5) as usize;
+    if plain < n {
         return Answer::Refused(Refusal::NoSuccessor);
     }
     let p = byte(image, 6);
     Answer::Image(Shape {
-        stages: byte(image, 5) as usize,
+        stages: n,
         predicates: p as usize,
         sets: first_set(image, p),
     })
@@ -53,11 +56,8 @@ pub fn read(image: &[u8]) -> Answer
 pub fn set(image: &[u8], i: usize) -> Set
     ensures { λ r. ⌜ number r ≡ setOf (now (image .entry)) i ⌝ }
 {
-    if image.len() / sets::BYTES < i {
-        return sets::empty();
-    }
     let p = byte(image, 6) as usize;
-    sets::read(image, 7 + p + sets::BYTES * i)
+    sets::read_nth(image, 7 + p, i)
 }
 
 // The number of predicate q's first set.
@@ -129,28 +129,34 @@ fn length_fits(image: &[u8]) -> bool
     true
 }
 
-// Whether a bit n or above is set in any set.
-fn high_bit(image: &[u8]) -> bool
+// How many of the successor sets, from the first on, have a stage and none at n or above: all of them where nothing is to be refused.
+fn plain_sets(image: &[u8]) -> usize
     requires { ⌜ SizesFit (now image) ⌝ }
+    ensures { λ r. ⌜ Plain (now (image .entry)) r ⌝ }
+{
+    let n = byte(image, 5) as usize;
+    let all = sets::below(n);
+    for i in 0..n {
+        let s = set(image, i);
+        if !sets::subset(s, all) {
+            return i;
+        }
+        if sets::is_empty(s) {
+            return i;
+        }
+    }
+    n
+}
+
+// Whether a bit n or above is set in any set. The plain ones, which come first, have none and are not looked at again.
+fn high_bit(image: &[u8], plain: usize) -> bool
+    requires { ⌜ SizesFit (now image) × Plain (now image) plain ⌝ }
     ensures { λ r. ⌜ Decides r (HighBit (now (image .entry))) ⌝ }
 {
     let all = sets::below(byte(image, 5) as usize);
     let count = first_set(image, byte(image, 6));
-    for i in 0..count {
+    for i in plain..count {
         if !sets::subset(set(image, i), all) {
-            return true;
-        }
-    }
-    false
-}
-
-// Whether a stage has no successor.
-fn dead_stop(image: &[u8]) -> bool
-    ensures { λ r. ⌜ Decides r (DeadStop (now (image .entry))) ⌝ }
-{
-    let n = byte(image, 5) as usize;
-    for s in 0..n {
-        if sets::is_empty(set(image, s)) {
             return true;
         }
     }

@@ -6,7 +6,7 @@ ghost use mathlib.Core.Path.{_≡_};
 ghost use Prim.Native.Nat.{max};
 ghost use Rattle.model.specs.Decides.{Decides};
 ghost use Rattle.format.specs.Table.{NestedTooDeep};
-ghost use Rattle.format.specs.Reading.{Nested, NestedBelow};
+ghost use Rattle.format.specs.Reading.{Nested, NestedBelow, DeepRoot, Roots};
 
 // How many modalities nest in an entry's formula.
 fn nested(table: &[u8], e: u8) -> usize
@@ -37,12 +37,29 @@ fn larger(a: usize, b: usize) -> usize
     if a < b { b } else { a }
 }
 
-pub(crate) fn nested_too_deep(image: &[u8], table: &[u8]) -> bool
+// Whether an entry is operand of none, as the flags say, and its formula nests over 4 modalities.
+fn deep_root(image: &[u8], table: &[u8], seen: &[u8], e: u8) -> bool
+    ensures { λ r. ⌜ Decides r (DeepRoot (now (image .entry)) (now (table .entry)) (now (seen .entry)) e) ⌝ }
+{
+    let flag = byte(seen, e as usize);
+    if flag == 1 {
+        return false;
+    }
+    if 4 < nested(table, e) {
+        return true;
+    }
+    false
+}
+
+// Whether some formula nests over 4 modalities. Only entries that are operands of none are asked: an operand's formula nests no deeper than
+// the one that it stands in.
+pub(crate) fn nested_too_deep(image: &[u8], table: &[u8], seen: &[u8]) -> bool
+    requires { ⌜ Roots (now image) (now table) (now seen) ⌝ }
     ensures { λ r. ⌜ Decides r (NestedTooDeep (now (image .entry)) (now (table .entry))) ⌝ }
 {
     let m = byte(table, 5);
     for e in 0..m {
-        if 4 < nested(table, e) {
+        if deep_root(image, table, seen, e) {
             return true;
         }
     }

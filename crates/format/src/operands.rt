@@ -1,18 +1,17 @@
-// Whether an entry is operand twice in the whole table: a flag for each entry.
+// Which entries are operands in the whole table, and whether one is so twice: a flag for each entry.
 use crate::byte;
 use crate::record;
 use crate::record::Record;
 use crate::record::Sort;
 ghost use Prim.Native.Nat.{_<_};
 ghost use mathlib.Core.List.{[], _∷_};
-ghost use Rattle.model.specs.Decides.{Decides};
-ghost use Rattle.format.specs.Table.{operandsIn, OperandTwice};
-ghost use Rattle.format.specs.Reading.{Noted, OperandsSmall, AllSmall};
+ghost use Rattle.format.specs.Table.{operandsIn, operands, entriesOf};
+ghost use Rattle.format.specs.Reading.{Flagged, Noted, OperandsSmall, AllSmall};
 
 // Which entries were met as operands, a flag for each, and whether one was met twice.
 pub struct Flags {
-    seen: [u8; 64],
-    twice: bool,
+    pub(crate) seen: [u8; 64],
+    pub(crate) twice: bool,
 }
 
 fn noted(f: Flags, o: u8) -> Flags
@@ -44,9 +43,10 @@ fn noted_operands(f: Flags, r: Record) -> Flags
     }
 }
 
-pub(crate) fn operand_twice(table: &[u8]) -> bool
+// The flags of all operands of the table.
+pub(crate) fn noted_all(table: &[u8]) -> Flags
     requires { ⌜ AllSmall (now table) ⌝ }
-    ensures { λ r. ⌜ Decides r (OperandTwice (now (table .entry))) ⌝ }
+    ensures { λ f. ⌜ Flagged (operands (now (table .entry)) (entriesOf (now (table .entry)))) f ⌝ }
 {
     let m = byte(table, 5);
     let mut f = Flags {
@@ -56,5 +56,5 @@ pub(crate) fn operand_twice(table: &[u8]) -> bool
     for e in 0..m {
         f = noted_operands(f, record::entry(table, e as usize));
     }
-    f.twice
+    f
 }

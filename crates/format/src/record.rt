@@ -84,8 +84,28 @@ pub fn sort_of(kind: Kind) -> Sort
     }
 }
 
-// The record of an entry; past the table's end every field is 0.
+// The record of an entry; past the table's end every field is 0. Where the whole record is there its bytes are read as they stand.
 pub fn entry(table: &[u8], e: usize) -> Record
+    ensures { λ r. ⌜ r ≡ recordAt (now (table .entry)) e ⌝ }
+{
+    if e < 64 {
+        let at = 6 * e;
+        if 11 + at < table.len() {
+            return Record {
+                kind: table[6 + at],
+                a: table[7 + at],
+                b: table[8 + at],
+                x: table[9 + at],
+                y: table[10 + at],
+                t: table[11 + at],
+            };
+        }
+    }
+    entry_byte_by_byte(table, e)
+}
+
+// The same where some of the bytes may be missing.
+fn entry_byte_by_byte(table: &[u8], e: usize) -> Record
     ensures { λ r. ⌜ r ≡ recordAt (now (table .entry)) e ⌝ }
 {
     if table.len() / 6 < e {

@@ -45,10 +45,12 @@ fn read_with(image: &[u8], shape: image::Shape, table: &[u8]) -> Answer
     if bad_record(image, table) {
         return Answer::Refused(Refusal::BadRecord);
     }
-    if operands::operand_twice(table) {
+    let flags = operands::noted_all(table);
+    if flags.twice {
         return Answer::Refused(Refusal::OperandTwice);
     }
-    if nesting::nested_too_deep(image, table) {
+    let seen = flags.seen;
+    if nesting::nested_too_deep(image, table, &seen) {
         return Answer::Refused(Refusal::NestedTooDeep);
     }
     Answer::Table(Shape {

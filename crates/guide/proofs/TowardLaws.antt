@@ -1,72 +1,50 @@
--- Rows that lead each stage to a successor: a row filled stage by stage, and the lowest successor in a set as trailing zeros give it.
+-- Rows that lead each stage to a successor: what stands in a row that is filled, and the lowest successor in a set as trailing zeros give it.
 --
---     filled-start, filled-put, filled-keep, filled-end   a row filled stage by stage
+--     cleared-new, filled-nowhere                         a row that leads nowhere
 --     filled-as, filled-after, filled-once                other words for what stands in it; filled once more; one row is so filled
 --     lowest-found, lowest-lacks                          the lowest stage of what a stage's successors and a set have in common
 --     lowest-in-row                                       the lowest successor in a set, of the graph that a row of successor sets holds
---     settle-new, settle-old, fill-each                   that successor for the stages that are new, and for every stage
+--     settle-start, settle-stage, settle-turn, settle-end that successor for the stages that are new, one after the other
+--     fill-each                                           and for every stage
 --
 -- Assumes nothing.
-use Prim.Native.Nat.{ℕ, _+_, _≤_, _<_}
+use Prim.Native.Nat.{ℕ, _^_, _≤_, _<_}
 use native.Mathlib.Omega.{arith}
-use mathlib.Core.Path.{_≡_, refl, sym, ap, _∙_, subst}
-use mathlib.Core.Bool.{Bool, true, false, _&&_}
+use mathlib.Core.Path.{_≡_, refl, sym, ap, ap₂, _∙_, subst}
+use mathlib.Core.Bool.{Bool, true, false, not, _&&_}
 use mathlib.Core.List.{List}
-use mathlib.Core.Logic.{⊎-elim}
+use mathlib.Core.Logic.{⊎-elim, _≢_}
 use lib.Bits.{bitAnd}
 use lib.Count.{trailingZeros}
-use lib.Dec.{T}
+use lib.Dec.{T, eqb}
 use lib.ListN
-use lib.ListN.{length, getD, set, length-set}
+use lib.ListN.{length, getD, length-set, replicate, getD-replicate}
 use lib.Seq.{getD-set-same, getD-set-other, ext-getD}
-use Rattle.model.specs.Decides.{Decides}
+use borrow.Author.Tests.{eq-eqb, ne-eqb}
 use Rattle.model.specs.Graph.{Graph}
 use Rattle.model.specs.Formula.{pick}
 use Rattle.logic.proofs.Booleans.{T-and}
-use Rattle.sets.specs.Member.{Has}
+use Rattle.sets.specs.Member.{bit, Has, Within, Empty}
 use Rattle.sets.specs.Number.{width}
 use Rattle.sets.specs.Row.{held}
 use Rattle.sets.proofs.LawsLowest
 use Rattle.sets.proofs.LawsMember.{same?, side?, has-test, has-and}
-use Rattle.modal.specs.Row.{member, Row}
+use Rattle.sets.proofs.LawsWalk.{Turn, walk-has}
+use Rattle.modal.specs.Row.{member, Row, Inside}
 use Rattle.modal.proofs.LawsMember.{below, member-all}
-use Rattle.hand.proofs.HandLaws.{member-is}
 use Rattle.written.specs.Choice.{lowest, lowestNext}
 use Rattle.written.proofs.LowestLaws.{lowest-is, lowest-none, lowest-same}
-use Rattle.guide.specs.Toward.{Filled, lowestIn, settled}
+use Rattle.guide.specs.Toward.{Filled, nowhere, Cleared, lowestIn, settled}
 
--- ---- a row filled stage by stage
+-- ---- a row that is filled
 
--- Before the first stage it is as it was.
-pub filled-start : (value : ℕ → ℕ) (row : List ℕ) → Filled 0 value row row
-filled-start value row = record { each = λ s h. absurd (omega arith); kept = λ s h. refl; size = refl }
+-- A new row of zeros leads nowhere.
+pub cleared-new : {n : ℕ} → n ≤ width → Cleared n (replicate width 0)
+cleared-new w s h = getD-replicate {A = ℕ} width s 0 0 (omega arith)
 
-module _ {s : ℕ} {value : ℕ → ℕ} {before row : List ℕ} (f : Filled s value before row) where
-  -- One stage more, at which a value is put in,
-  pub filled-put : {v : ℕ} → s < length row → v ≡ value s → Filled (s + 1) value before (set row s v)
-  filled-put {v} h e = record {
-    each = λ t i. ⊎-elim
-        (λ q. ap (λ (j : ℕ). getD (set row s v) j 0) q ∙ getD-set-same row s v 0 h ∙ e ∙ ap value (sym q))
-        (λ n. getD-set-other row s t v 0 n ∙ f .each t (omega arith)) (same? t s);
-    kept = λ t i. getD-set-other row s t v 0 (omega arith) ∙ f .kept t (omega arith);
-    size = length-set row s v ∙ f .size;
-  }
-
-  -- or at which what stood there stays.
-  pub filled-keep : getD before s 0 ≡ value s → Filled (s + 1) value before row
-  filled-keep e = record {
-    each = λ t i. ⊎-elim
-        (λ q. subst (λ (j : ℕ). getD row j 0 ≡ value j) (sym q) (f .kept s (omega arith) ∙ e))
-        (λ n. f .each t (omega arith)) (same? t s);
-    kept = λ t i. f .kept t (omega arith);
-    size = f .size;
-  }
-
--- After the last stage it is filled.
-pub filled-end : {n s : ℕ} {value : ℕ → ℕ} {before after : List ℕ} → s ≤ n → n ≤ s → Filled s value before after → Filled n value before after
-filled-end {n} {s} {value} {before} {after} l g f =
-    let e : s ≡ n = omega arith in
-    subst (λ (k : ℕ). Filled k value before after) e f
+-- A row that leads nowhere is filled with that already.
+pub filled-nowhere : {n : ℕ} {row : List ℕ} → Cleared n row → Filled n nowhere row row
+filled-nowhere c = record { each = c; kept = λ s h. refl; size = refl }
 
 -- What is put in counts below n alone.
 pub filled-as : {n : ℕ} {v w : ℕ → ℕ} {before after : List ℕ} → ((s : ℕ) → s < n → v s ≡ w s) → Filled n v before after → Filled n w before after
@@ -119,19 +97,82 @@ lowest-in-row {next} {n} {G} R set s h =
     (λ t i. ap (λ (b : Bool). b && member set t) (sym (R .edges s t h i)))
     ∙ ap (λ (k : ℕ). lowest k (λ t. G .next s t && member set t)) (sym (R .stages))
 
--- A row of which the new stages are led to their lowest successor in a set: one stage more, which is new,
-module _ (next : List ℕ) (n new set : ℕ) {s : ℕ} {before row : List ℕ} (f : Filled s (settled next n new set before) before row) (b : Bool)
-    (d : Decides b (Has new s)) where
-  settled-by : (q : Bool) → b ≡ q → settled next n new set before s ≡ pick q (lowestIn next n set s) (getD before s 0)
-  settled-by q e = ap (λ (p : Bool). pick p (lowestIn next n set s) (getD before s 0)) (sym (member-is new s b d) ∙ e)
+-- ---- the new stages, one after the other
 
-  pub settle-new : {after : List ℕ} (v : ℕ) → b ≡ true → s < length row → v ≡ lowestIn next n set s → after ≡ ListN.set row s v
-      → Filled (s + 1) (settled next n new set before) before after
-  settle-new v e h v-is g = rw g (filled-put f h (v-is ∙ sym (settled-by true e)))
+-- The new stages that are not left are led to their lowest successor in a set, and all else is as it was.
+pub record Settling (next : List ℕ) (n new set : ℕ) (before : List ℕ) (left : ℕ) (row : List ℕ) : Type 0 where
+  pub small : left < 2 ^ width
+  pub inside : Inside n left
+  pub among : Within left new
+  pub filled : Filled n (λ s. pick (member new s && not (member left s)) (lowestIn next n set s) (getD before s 0)) before row
 
-  -- or which is not.
-  pub settle-old : {after : List ℕ} → b ≡ false → after ≡ row → Filled (s + 1) (settled next n new set before) before after
-  settle-old e g = rw g (filled-keep f (sym (settled-by false e)))
+module _ (next : List ℕ) (n new set : ℕ) {before : List ℕ} where
+  -- At the start all are left.
+  pub settle-start : new < 2 ^ width → Inside n new → Settling next n new set before new before
+  settle-start w i = record {
+    small = w;
+    inside = i;
+    among = λ s h. h;
+    filled = record { each = λ s h. ap (λ (b : Bool). pick b (lowestIn next n set s) (getD before s 0)) (sym (none (member new s))); kept = λ s h. refl; size = refl };
+  }
+    where
+      none : (b : Bool) → (b && not b) ≡ false
+      none true = refl
+      none false = refl
+
+  module _ {left k left′ : ℕ} {row : List ℕ} (g : Settling next n new set before left row) (turn : Turn left k left′) where
+    -- The stage of a turn is below n.
+    pub settle-stage : k < n
+    settle-stage = g .inside k (walk-has turn (g .small))
+
+    -- A turn leads its stage, and no other.
+    pub settle-turn : (v : ℕ) → n ≤ length before → v ≡ lowestIn next n set k → Settling next n new set before left′ (ListN.set row k v)
+    settle-turn v room v-is = record {
+      small = omega (arith, turn .others, LawsLowest.rest-small width left (g .small));
+      inside = λ s h. g .inside s (still s h);
+      among = λ s h. g .among s (still s h);
+      filled = record {
+        each = λ s h. ⊎-elim
+            (λ q. ap (λ (j : ℕ). getD (ListN.set row k v) j 0) q ∙ getD-set-same row k v 0 fits ∙ v-is
+            ∙ sym (ap (λ (j : ℕ). value j) q ∙ ap (λ (b : Bool). pick b (lowestIn next n set k) (getD before k 0)) here))
+            (λ d. getD-set-other row k s v 0 d ∙ g .filled .each s h
+            ∙ ap (λ (b : Bool). pick (member new s && not b) (lowestIn next n set s) (getD before s 0))
+            (sym (ap (λ (j : ℕ). eqb j 1) (other s d)))) (same? s k);
+        kept = λ s h. getD-set-other row k s v 0 (omega (arith, settle-stage)) ∙ g .filled .kept s h;
+        size = length-set row k v ∙ g .filled .size;
+      };
+    }
+      where
+        value : ℕ → ℕ
+        value s = pick (member new s && not (member left′ s)) (lowestIn next n set s) (getD before s 0)
+
+        fits : k < length row
+        fits = omega (arith, settle-stage, g .filled .size)
+
+        other : (s : ℕ) → s ≢ k → bit left′ s ≡ bit left s
+        other s d = ap (λ (x : ℕ). bit x s) (turn .others) ∙ LawsLowest.rest-other width left s (g .small) (λ e. d (e ∙ sym (turn .lowest)))
+
+        gone : bit left′ k ≡ 0
+        gone = ap₂ bit (turn .others) (turn .lowest) ∙ LawsLowest.rest-lowest width left (g .small)
+
+        still : (s : ℕ) → Has left′ s → Has left s
+        still s h = ⊎-elim (λ q. subst (Has left) (sym q) (walk-has turn (g .small))) (λ d. sym (other s d) ∙ h) (same? s k)
+
+        here : (member new k && not (member left′ k)) ≡ true
+        here =
+            ap₂ (λ (b c : Bool). b && not c) (eq-eqb (bit new k) 1 (g .among k (walk-has turn (g .small))))
+            (ne-eqb (bit left′ k) 1 (λ h. omega (arith, gone, h)))
+
+  -- At the end none is left.
+  pub settle-end : {left : ℕ} {row : List ℕ} → Settling next n new set before left row → Empty left
+      → Filled n (settled next n new set before) before row
+  settle-end {left} g none =
+      filled-as (λ s h. ap (λ (b : Bool). pick b (lowestIn next n set s) (getD before s 0))
+      (ap (λ (b : Bool). member new s && not b) (ne-eqb (bit left s) 1 (none s)) ∙ and-true (member new s))) (g .filled)
+    where
+      and-true : (b : Bool) → (b && true) ≡ b
+      and-true true = refl
+      and-true false = refl
 
 -- Where every stage is to be led to its lowest successor, each is.
 pub fill-each : (next : List ℕ) (n all set : ℕ) {before after : List ℕ} → n ≤ width → all ≡ below n

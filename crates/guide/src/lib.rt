@@ -7,7 +7,7 @@
 // operations. A step costs a few operations.
 //
 // `guide` requires what a question that is not refused has (`Ready`), as the verdict's `where_holds` does, and a row with room for a stage for each
-// stage; `choose` takes any input.
+// stage, that leads nowhere yet; `choose` takes any input.
 mod sides;
 mod toward;
 
@@ -25,10 +25,11 @@ ghost use Rattle.format.specs.Image.{member};
 ghost use Rattle.verdict.specs.Evaluation.{Ready};
 ghost use Rattle.written.specs.Choice.{ifSo};
 ghost use Rattle.guide.specs.Guide.{guided};
+ghost use Rattle.guide.specs.Toward.{Cleared};
 ghost use Rattle.guide.specs.Worked.{Guidance};
 
 // What guides a writer of an entry's formula on a side: the set of the stages at which it stops, and in `toward`, for each stage below n, the successor
-// to which it goes on. From n on the row is kept. For most kinds there is nothing to work out: the set is empty, and the row leads nowhere.
+// to which it goes on. From n on the row is kept. For most kinds there is nothing to work out: the set is empty, and the row leads nowhere, as before.
 pub fn guide(
     image: &[u8],
     table: &[u8],
@@ -39,12 +40,11 @@ pub fn guide(
     env: Env,
     toward: &mut [u8],
 ) -> Set
-    requires { ⌜ Ready (now image) (now table) (now next) n e env × (n ≤ length (now toward)) ⌝ }
+    requires { ⌜ Ready (now image) (now table) (now next) n e env × (n ≤ length (now toward)) × Cleared n (now toward) ⌝ }
     ensures { λ r. ⌜ Guidance (now (image .entry)) (now (table .entry)) side e env (number r) (now (toward .entry)) (now (toward .exit)) ⌝ }
 {
     let r = record::entry(table, e as usize);
     let none = sets::empty();
-    toward::clear(n, toward);
     match hand::kind_on(side, r.kind) {
         Kind::Or => sides::all_or_none(image, table, next, n, side, r.a, env),
         Kind::EX => {

@@ -3,4 +3,5 @@ pub mod EnvironmentLaws
 pub mod HandLaws
 pub mod SideLaws
 pub mod SetupLaws
+pub mod EntryLaws
 pub mod Promise

@@ -2,20 +2,27 @@
 --
 --     decoded-start, decoded-more, decoded-end
 --     decoded-once                                the row is the only one that is so
+--     sets-fit, none-past, zeros                  an image has so many sets, and none past them; a row of zeros
+--     all-sets, next-set                          such a row with all of them put in, and the successor sets in it
 --
 -- Assumes nothing.
-use Prim.Native.Nat.{ℕ, _+_, _≤_, _<_}
+use Prim.Native.Nat.{ℕ, zero, suc, _+_, _*_, _≤_, _<_}
 use native.Mathlib.Omega.{arith}
 use mathlib.Core.Path.{_≡_, refl, sym, ap, _∙_, subst}
 use mathlib.Core.List.{List}
 use mathlib.Core.Logic.{⊎-elim}
-use lib.ListN.{length}
+use lib.Dec.{eqb}
+use lib.ListN.{length, replicate, length-replicate, getD-replicate}
 use lib.Seq.{ext-getD}
-use Rattle.sets.specs.Row.{room, held, Put}
+use Rattle.sets.specs.Row.{words, room, held, Put}
 use Rattle.sets.proofs.LawsMember.{same?, side?}
-use Rattle.sets.proofs.LawsRow.{room-enough}
-use Rattle.format.specs.Image.{setOf}
-use Rattle.hand.specs.Setup.{Decoded}
+use Rattle.sets.proofs.LawsBytes.{stored-out}
+use Rattle.sets.proofs.LawsRow.{room-enough, held-past}
+use Rattle.format.specs.Image.{SizesFit, LengthFits, stagesOf, predicatesOf, arityOf, firstSet, setsFor, setsIn, setOf}
+use Rattle.format.proofs.ImageLaws.{pick-le}
+use Rattle.hand.specs.Hand.{SuccessorsOf}
+use Rattle.hand.specs.Setup.{Decoded, AllSets}
+use Rattle.hand.proofs.HandLaws.{successors-in}
 
 -- Before the first set nothing is put in.
 pub decoded-start : (image row : List ℕ) → Decoded image 0 row row
@@ -54,3 +61,40 @@ decoded-once image n row a b p q = ext-getD 0 a b (p .size ∙ sym (q .size)) (�
 
     beyond : (s : ℕ) → n ≤ s → held a s ≡ held b s
     beyond s l = p .others s l ∙ sym (q .others s l)
+
+-- ---- all sets of an image
+
+-- A predicate has no more sets than there may be stages.
+first-most : (image : List ℕ) → SizesFit image → (q : ℕ) → firstSet image q ≤ 64 + 64 * q
+unfolding firstSet
+first-most image fit zero = omega (arith, fit .stages)
+first-most image fit (suc q) =
+    omega
+    (arith, first-most image fit q, pick-le (eqb (arityOf image q) 2) {s = stagesOf image} {t = 1} {m = 64} (fit .stages) (omega arith))
+
+-- There is room for all of them in 17 for each stage.
+pub sets-fit : (image : List ℕ) → SizesFit image → setsIn image ≤ 1088
+sets-fit image fit = omega (arith, first-most image fit (predicatesOf image), fit .predicates)
+
+-- Past the last there is none.
+pub none-past : (image : List ℕ) → LengthFits image → (i : ℕ) → setsIn image ≤ i → setOf image i ≡ 0
+none-past image fit i h = stored-out image (7 + predicatesOf image + 8 * i) (omega (arith, fit .total))
+
+-- A row of zeros holds empty sets.
+pub zeros : (n i : ℕ) → held (replicate n 0) i ≡ 0
+unfolding held room
+zeros n i = ⊎-elim (λ h. getD-replicate n i 0 0 h) (λ h. held-past (replicate n 0) i (omega (arith, length-replicate {A = ℕ} n 0))) (side? i n)
+
+-- All sets are put into a row of zeros.
+pub all-sets : {image after : List ℕ} {n count : ℕ} → SizesFit image → LengthFits image → 1088 * words ≤ n → count ≡ setsIn image
+    → Decoded image count (replicate n 0) after → AllSets image after
+all-sets {image} {after} {n} {count} sizes long enough is d = record {
+  each = λ i. ⊎-elim
+      (λ h. d .sets i h (room-enough (replicate n 0) i (omega (arith, length-replicate {A = ℕ} n 0, sets-fit image sizes))))
+      (λ h. d .others i h ∙ zeros n i ∙ sym (none-past image long i (omega arith)))
+      (side? i count);
+}
+
+-- The set of a stage is its successors.
+pub next-set : {image sets : List ℕ} {s r : ℕ} → AllSets image sets → s < stagesOf image → r ≡ held sets s → SuccessorsOf image s r
+next-set {image} {s = s} all h e = successors-in image s h (e ∙ all .each s)

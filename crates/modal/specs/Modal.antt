@@ -1,5 +1,6 @@
 -- The six modalities of sets that are numbers, as the crate `logic` tests them (`Test`): what a result is held to in `Computes`.
 use Prim.Native.Nat.{ℕ}
+use mathlib.Core.Bool.{_&&_}
 use Rattle.model.specs.Graph.{Graph}
 use Rattle.logic.specs.Test.{Stages, someNext, eachNext, eg, af, ar, eu}
 use Rattle.modal.specs.Row.{member}
@@ -7,6 +8,10 @@ use Rattle.modal.specs.Row.{member}
 -- EX: some successor is in a.
 abbrev pub exOf : ℕ → Graph → Stages
 exOf a G = someNext G (member a)
+
+-- EX, asked of some stages only.
+abbrev pub exAmong : ℕ → ℕ → Graph → Stages
+exAmong among a G s = member among s && someNext G (member a) s
 
 -- AX: each successor is in a.
 abbrev pub axOf : ℕ → Graph → Stages

@@ -13,7 +13,7 @@ ghost use Rattle.model.specs.Decides.{Decides};
 ghost use Rattle.sets.specs.Number.{number};
 ghost use Rattle.modal.specs.Row.{Inside, Computes, Meeting};
 ghost use Rattle.modal.specs.Rounds.{readyOn, roundOn, roundsOn};
-ghost use Rattle.modal.specs.Modal.{exOf, axOf, egOf, afOf, arOf, euOf};
+ghost use Rattle.modal.specs.Modal.{exOf, exAmong, axOf, egOf, afOf, arOf, euOf};
 use sets::Set;
 
 // Which of its successors a stage asks to be in a set: some, or each.
@@ -65,6 +65,13 @@ pub fn some_next(next: &[u64], n: usize, x: Set) -> Set
     ensures { λ r. ⌜ Computes (now (next .entry)) n (exOf (number x)) (number r) ⌝ }
 {
     ready(next, n, Which::Some, sets::below(n), x)
+}
+
+// EX, asked of the stages `among` only: those of them below n with a successor in x.
+pub fn some_next_among(next: &[u64], n: usize, among: Set, x: Set) -> Set
+    ensures { λ r. ⌜ Computes (now (next .entry)) n (exAmong (number among) (number x)) (number r) ⌝ }
+{
+    ready(next, n, Which::Some, among, x)
 }
 
 // AX: the stages below n all of whose successors are in x.

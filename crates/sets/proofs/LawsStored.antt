@@ -1,6 +1,5 @@
--- A set as it is stored: a byte filled bit by bit, the highest first; a buffer filled byte by byte, the first first; and reading the bytes back.
+-- A set as it is stored: a buffer filled byte by byte, the first first; and reading the bytes back.
 --
---     Top, top-start, top-more, top-small, top-end   the k highest of eight bits
 --     Begun, front-start, front-more, front-length, front-end
 --                                                    a buffer with the first i bytes of a set at its front
 --     front-none, front-once                         no room for the set; one buffer has the set at its front
@@ -8,7 +7,7 @@
 --
 -- Assumes nothing.
 use Prim.Native.Nat.{ℕ, zero, suc, _+_, _-_, _*_, _/_, _%_, _^_, _≤_, _<_}
-use native.Mathlib.Nat.{pow-suc, pow-succ', mod-lt, mod-eq-of-lt}
+use native.Mathlib.Nat.{pow-suc, pow-succ', mod-eq-of-lt}
 use native.Mathlib.Omega.{arith}
 use mathlib.Core.Path.{_≡_, refl, sym, ap, ap₂, _∙_, subst}
 use mathlib.Core.List.{List, [], _∷_, _++_}
@@ -16,51 +15,12 @@ use mathlib.Core.Logic.{⊎-elim}
 use lib.Arith.{mod-mul}
 use lib.Dec.{lit<}
 use lib.ListN.{length, getD, drop, set}
-use lib.Pow.{pow-pos, pow-mono, pow-add, shr-shr, mod-pow-add}
+use lib.Pow.{pow-pos, pow-add}
 use lib.Seq.{paste, paste-zero, paste-suc, length-paste}
-use Rattle.sets.specs.Member.{bit}
 use Rattle.sets.specs.Number.{width, size, bigEndian, stored}
 use Rattle.sets.proofs.LawsBytes.{bigEndian-append, stored-in}
 use Rattle.sets.proofs.LawsMember.{side?}
 use Rattle.sets.specs.Stored.{bigEndianBytes, storedSet, AtFront}
-
--- ---- a byte
-
--- r is the k highest of the eight bits from `first` on.
-pub record Top (s first k r : ℕ) : Type 0 where
-  pub most : k ≤ 8
-  pub is : r ≡ s / 2 ^ (first + (8 - k)) % 2 ^ k
-
--- Of none there is 0.
-pub top-start : (s first : ℕ) → Top s first 0 0
-top-start s first = record { most = omega arith; is = omega arith }
-
--- One bit more.
-pub top-more : {s first k r d : ℕ} → k < 8 → Top s first k r → d ≡ bit s (first + 7 - k) → Top s first (k + 1) (r * 2 + d)
-top-more {s} {first} {k} {r} {d} h t e =
-    let m = first + 7 - k in
-    let up : first + (8 - k) ≡ m + 1 = omega arith in
-    let at : first + (8 - (k + 1)) ≡ m = omega arith in
-    record {
-      most = omega arith;
-      is =
-          ap₂ (λ (x y : ℕ). x * 2 + y) (t .is ∙ ap (λ (x : ℕ). s / 2 ^ x % 2 ^ k) up ∙ ap (λ (x : ℕ). x % 2 ^ k) (sym (shr-shr s m 1))) e
-          ∙ sym (mod-pow-add (s / 2 ^ m) k 1)
-          ∙ ap (λ (x : ℕ). s / 2 ^ x % 2 ^ (k + 1)) (sym at);
-    }
-
--- There is room for it.
-pub top-small : {s first k r : ℕ} → k < 8 → Top s first k r → r < 128
-top-small {s} {first} {k} h t =
-    let low : 2 ^ k ≤ 128 = pow-mono {i = k} {j = 7} (omega arith) in
-    omega (arith, t .is, mod-lt (s / 2 ^ (first + (8 - k))) (pow-pos k))
-
--- All eight are the byte.
-pub top-end : {s first k r : ℕ} → 8 ≤ k → Top s first k r → r ≡ s / 2 ^ first % 256
-top-end {s} {first} {k} g t =
-    let all : k ≡ 8 = omega (arith, t .most) in
-    let none : first + 0 ≡ first = omega arith in
-    t .is ∙ ap (λ (j : ℕ). s / 2 ^ (first + (8 - j)) % 2 ^ j) all ∙ ap (λ (x : ℕ). s / 2 ^ x % 256) none
 
 -- ---- a buffer
 

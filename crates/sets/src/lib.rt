@@ -7,13 +7,13 @@ pub mod row;
 pub mod stored;
 
 ghost use mathlib.Core.Path.{_≡_};
-ghost use Prim.Native.Nat.{_+_, _-_, _^_, _≤_, _<_, min};
+ghost use Prim.Native.Nat.{_+_, _-_, _*_, _^_, _≤_, _<_, min};
 ghost use lib.Bits.{bitAnd, bitOr};
 ghost use lib.Count.{ones, trailingZeros};
 ghost use lib.ListN.{length};
 ghost use Rattle.model.specs.Decides.{Decides};
 ghost use Rattle.sets.specs.Member.{Has, Within, Empty};
-ghost use Rattle.sets.specs.Number.{number, single, Held, stored, width};
+ghost use Rattle.sets.specs.Number.{number, single, Held, stored, width, size};
 
 // How many stages a set has room for, and how many bytes a stored one takes.
 pub const WIDTH: usize = 64;
@@ -175,19 +175,27 @@ fn four(bytes: &[u8], at: usize) -> u64
         + byte(bytes, at + 3)
 }
 
-// The set stored in the bytes from a place on; empty where they are not all there.
-pub fn read(bytes: &[u8], at: usize) -> Set
-    ensures { λ r. ⌜ number r ≡ stored (now (bytes .entry)) at ⌝ }
+// Set i of those stored one after another in the bytes from a place on; empty where its bytes are not all there.
+pub fn read_nth(bytes: &[u8], start: usize, i: usize) -> Set
+    ensures { λ r. ⌜ number r ≡ stored (now (bytes .entry)) (start + size * i) ⌝ }
 {
-    if bytes.len() < BYTES {
+    if bytes.len() < start {
         return empty();
     }
-    if bytes.len() - BYTES < at {
+    if (bytes.len() - start) / BYTES <= i {
         return empty();
     }
+    let at = start + BYTES * i;
     let high = four(bytes, at);
     let low = four(bytes, at + 4);
     Set {
         bits: high * 4294967296 + low,
     }
+}
+
+// The set stored in the bytes from a place on; empty where they are not all there.
+pub fn read(bytes: &[u8], at: usize) -> Set
+    ensures { λ r. ⌜ number r ≡ stored (now (bytes .entry)) at ⌝ }
+{
+    read_nth(bytes, at, 0)
 }

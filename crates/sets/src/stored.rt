@@ -2,27 +2,15 @@
 use crate::Set;
 ghost use mathlib.Core.Path.{_≡_};
 ghost use Prim.Native.Nat.{_+_, _/_, _%_, _^_, _≤_};
-ghost use Rattle.sets.specs.Member.{bit};
 ghost use Rattle.sets.specs.Number.{number, width};
 ghost use Rattle.sets.specs.Stored.{AtFront};
-
-// The bit of stage k.
-fn digit(s: Set, k: usize) -> u8
-    ensures { λ r. ⌜ r ≡ bit (number s) k ⌝ }
-{
-    if crate::has(s, k) { 1 } else { 0 }
-}
 
 // The byte of the eight stages from `first` on, the lowest of them worth 1.
 fn eight(s: Set, first: usize) -> u8
     requires { ⌜ first + 8 ≤ width ⌝ }
     ensures { λ r. ⌜ r ≡ number s / 2 ^ first % 256 ⌝ }
 {
-    let mut r = 0u8;
-    for k in 0..8 {
-        r = r * 2 + digit(s, first + 7 - k);
-    }
-    r
+    ((s.bits >> first) % 256) as u8
 }
 
 // Stores the set at the front of the buffer, whose rest stays as it is; one that has no room for the set stays as it is whole.

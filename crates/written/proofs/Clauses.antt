@@ -15,7 +15,7 @@ use mathlib.Core.Logic.{_↔_, Iff·trans, Iff·not, Iff·and, Iff·rfl}
 use lib.Dec.{T, eqb}
 use Rattle.model.specs.Graph.{Graph, Next, Readable}
 use Rattle.model.specs.Formula.{Formula, or, EX, AF, EG, AR, EU, Env, bind, value, Term, stage, Below}
-use Rattle.logic.specs.Meaning.{AtSomeNext, Holds}
+use Rattle.logic.specs.Meaning.{Holds}
 use Rattle.logic.specs.Rules.{Walk, On, Off}
 use Rattle.logic.proofs.Booleans.{T-not, differ}
 use Rattle.logic.specs.Test.{Stages, eg, test, Stand}
@@ -28,9 +28,8 @@ use Rattle.rules.specs.declared.Rule.{Rule}
 use Rattle.written.specs.Choice.{ifSo, lowestNext, choice, fewest, nearest}
 use Rattle.written.specs.Ways.{Lowest, Nearest}
 use Rattle.written.proofs.ShapeLaws.{taken}
-use Rattle.written.proofs.LowestLaws.{lowest-next, lowest-next-first}
 use Rattle.written.proofs.WalkLaws.{taken-by}
-use Rattle.written.proofs.WayLaws.{nearest-is-nearest}
+use Rattle.written.proofs.WayLaws.{lowest-in, nearest-is-nearest}
 
 -- Two rules with different codes.
 abbrev Apart : Rule → Rule → Type 0
@@ -85,16 +84,6 @@ module _ {G : Graph} (R : Readable G) (e : Env) (d : Stand (G .stages) e) where
   means : (f : Formula) → Below (G .stages) f → (x : ℕ) → Says (G .stages) (λ s. test G f (bind e x s)) (λ s. Holds G f (bind e x s))
   means f b x = record { at = λ s h. test-holds R f (bind e x s) b (bind-stands d x h) }
 
-  -- The lowest successor in a set that says P, where some successor is in it.
-  lowest-in : {p : Stages} {P : ℕ → Type 0} → Says (G .stages) p P → (s : ℕ) → AtSomeNext G (λ u. T (p u)) s
-      → Lowest (λ u. Next G s u × P u) (lowestNext G p s)
-  lowest-in {p} says s h =
-      let c = lowest-next R p s h in
-      record {
-        has = (c .0, says .at (lowestNext G p s) (R .inside s (lowestNext G p s) (c .0) .1) .0 (c .1));
-        none = λ u l v. lowest-next-first R p s u l (v .0) (says .at u (R .inside s u (v .0) .1) .1 (v .1));
-      }
-
   -- Or: left if it holds.
   pub or-left : (f g : Formula) → Below (G .stages) f → (w : Walk) (s : ℕ) → (taken G (or f g) e w s ≡ Rule.OrLeft) ↔ Holds G f e
   or-left f g b w s = Iff·trans (first-taken Rule.OrLeft Rule.OrRight tt (test G f e)) (test-holds R f e b d)
@@ -110,7 +99,7 @@ module _ {G : Graph} (R : Readable G) (e : Env) (d : Stand (G .stages) e) where
     ex-lowest t h w = (
       lowestNext G (λ s. test G f (bind e x s)) (value e t),
       refl,
-      lowest-in (means f b x) (value e t) (h .0, h .1, means f b x .at (h .0) (R .inside (value e t) (h .0) (h .1) .1) .1 (h .2)),
+      lowest-in R (means f b x) (value e t) (h .0, h .1, means f b x .at (h .0) (R .inside (value e t) (h .0) (h .1) .1) .1 (h .2)),
     )
 
     -- AF: now if a holds.
@@ -141,7 +130,7 @@ module _ {G : Graph} (R : Readable G) (e : Env) (d : Stand (G .stages) e) where
         let says : Says (G .stages) (eg G a) (λ u. Holds G (EG x f (stage u)) e) = record { at = eg-means R a _ (means f b x) } in (
           lowestNext G (eg G a) s,
           second-taken Rule.EgMerge _ tt (w s) .1 (T-not (w s) .0 o),
-          lowest-in says s (eg-on R a s h (says .at s h .1 v) .1),
+          lowest-in R says s (eg-on R a s h (says .at s h .1 v) .1),
         )
 
   -- The operand b of EU is g where y stands at a stage. EU: now if b holds,

@@ -1,7 +1,8 @@
--- The steps that are written for a formula that holds are those of a derivation: `written-derived`. It is a line for each kind, over the laws of
--- `WalkLaws`.
+-- The steps that are written for a formula that holds are those of a derivation whose rules are chosen as document 01 says: `written-ours`. It is a line
+-- for each kind, over the laws of `WalkLaws`.
 --
---     written-derived      where the test passes
+--     written-ours         where the test passes
+--     written-derived      the same with nothing said of the rules
 --     written-proves       where the formula holds
 --     written-accepted     so it is read to its end, with nothing remaining
 --     one-side-written     of a formula and its dual, the side that holds
@@ -28,67 +29,94 @@ use Rattle.rules.specs.Steps.{no-steps, encode}
 use Rattle.rules.specs.Reading.{readFormula}
 use Rattle.rules.specs.declared.Progress.{Progress}
 use Rattle.rules.proofs.Accepted.{certificate}
+use Rattle.written.specs.Chosen.{nowhere, no-ours, Ours}
 use Rattle.written.specs.Written.{Entry, along, entry, no-entry, writtenOn, written}
-use Rattle.written.proofs.WalkLaws.{Proves, Derives, and-derives, or-derives, ax-derives, ex-derives, af-derives, eg-derives, ar-derives, eu-derives}
+use Rattle.written.proofs.WalkLaws.{Meant, Proves, Derives, and-derives, or-derives, ax-derives, ex-derives, af-derives}
+use Rattle.written.proofs.WalkLaws.{eg-derives, ar-derives, eu-derives}
 
-module _ (G : Graph) where
-  -- What is written for f is the steps of a derivation of it, wherever its variables stand.
+module _ {G : Graph} (R : Readable G) where
+  -- What is written for f is the steps of a derivation of it that is ours, wherever its variables stand.
   abbrev Writes : Formula → Type 0
-  Writes f = (e : Env) → Below (G .stages) f → Stand (G .stages) e → T (test G f e) → (d : Derived G f e) × (encode G f e d ≡ written G f e)
+  Writes f =
+      (e : Env) → Below (G .stages) f → Stand (G .stages) e → T (test G f e)
+      → (d : Derived G f e) × Ours G f e d × (encode G f e d ≡ written G f e)
 
-  -- So it is at each stage that x is bound to.
-  under : (f : Formula) → Writes f → Below (G .stages) f → (e : Env) → Stand (G .stages) e → (x : ℕ)
-      → Proves (G .stages) (entry G f (bind e x) (λ s. writtenOn G f (bind e x s))) (λ s. Derived G f (bind e x s)) (λ s. encode G f (bind e x s))
-  under f writes b e d x = record { at = λ s h. writes (bind e x s) b (bind-stands d x h) }
+  -- The formula f where the variables stand at a stage as `envs` has them, and an entry that a formula does not have.
+  abbrev meant : Formula → (ℕ → Env) → Meant
+  meant f envs = record {
+    holds = λ s. Holds G f (envs s);
+    derived = λ s. Derived G f (envs s);
+    ours = λ s. Ours G f (envs s);
+    steps = λ s. encode G f (envs s);
+  }
 
-  -- An entry that a formula does not have holds nowhere.
-  nowhere : Proves (G .stages) (no-entry G) (λ s. ⊥) no-steps
-  nowhere = record { at = λ s h t. absurd t }
+  abbrev nothing : Meant
+  nothing = record { holds = nowhere; derived = nowhere; ours = no-ours; steps = no-steps }
 
-  -- Where the entries' steps are those of derivations, so are those of the kind K at the stages with M.
+  -- What is written for f proves it, at each stage at which its variables stand at stages; and what holds nowhere is proved where it holds.
+  entry-proves : (f : Formula) → Writes f → Below (G .stages) f → (envs : ℕ → Env) → ((s : ℕ) → s < G .stages → Stand (G .stages) (envs s))
+      → Proves (G .stages) (entry G f envs (λ s. writtenOn G f (envs s))) (meant f envs)
+  entry-proves f writes b envs stand = record {
+    says = record { at = λ s h. test-holds R f (envs s) b (stand s h) };
+    at = λ s h. writes (envs s) b (stand s h);
+  }
+
+  nothing-proves : Proves (G .stages) (no-entry G) nothing
+  nothing-proves = record { says = record { at = λ s h. (λ t. absurd t, λ t. absurd t) }; at = λ s h t. absurd t }
+
+  -- Where the entries' steps are those of derivations that are ours, so are those of the kind K at the stages where `holds` passes.
   abbrev Law : Kind → (Stages → Stages → Stages) → Type 1
-  Law K M =
-      (A B : Entry) (D F : ℕ → Type 0) (x : (s : ℕ) → D s → List ℕ) (y : (s : ℕ) → F s → List ℕ) → Proves (G .stages) A D x → Proves (G .stages) B F y
-      → (s : ℕ) → s < G .stages → T (M (A .holds) (B .holds) s) → Derives G x y K empty s (along G K A B (suc (G .stages)) empty s)
+  Law K holds =
+      (A B : Entry) (M N : Meant) → Proves (G .stages) A M → Proves (G .stages) B N
+      → (s : ℕ) → s < G .stages → T (holds (A .holds) (B .holds) s) → Derives G M N K empty s (along G K A B (suc (G .stages)) empty s)
 
   -- A modality over one operand, and one over two.
-  modal-writes : (K : Kind) (M : Stages → Stages) → Law K (λ a b. M a) → (x : ℕ) (f : Formula) (t : Term) → Writes f
-      → (e : Env) → TermBelow (G .stages) t × Below (G .stages) f → Stand (G .stages) e → T (M (λ s. test G f (bind e x s)) (value e t))
-      → Derives G (λ s. encode G f (bind e x s)) no-steps K empty (value e t)
+  modal-writes : (K : Kind) (holds : Stages → Stages) → Law K (λ a b. holds a) → (x : ℕ) (f : Formula) (t : Term) → Writes f
+      → (e : Env) → TermBelow (G .stages) t × Below (G .stages) f → Stand (G .stages) e → T (holds (λ s. test G f (bind e x s)) (value e t))
+      → Derives G (meant f (bind e x)) nothing K empty (value e t)
       (along G K (entry G f (bind e x) (λ s. writtenOn G f (bind e x s))) (no-entry G) (suc (G .stages)) empty (value e t))
-  modal-writes K M law x f t writes e b d u = law _ _ _ _ _ _ (under f writes (b .1) e d x) nowhere (value e t) (term-stands d t (b .0)) u
+  modal-writes K holds law x f t writes e b d u =
+      law _ _ _ _ (entry-proves f writes (b .1) (bind e x) (λ s h. bind-stands d x h)) nothing-proves (value e t) (term-stands d t (b .0)) u
 
-  modal₂-writes : (K : Kind) (M : Stages → Stages → Stages) → Law K M → (x : ℕ) (f : Formula) (y : ℕ) (g : Formula) (t : Term) → Writes f → Writes g
+  modal₂-writes : (K : Kind) (holds : Stages → Stages → Stages) → Law K holds → (x : ℕ) (f : Formula) (y : ℕ) (g : Formula) (t : Term) → Writes f → Writes g
       → (e : Env) → TermBelow (G .stages) t × Below (G .stages) f × Below (G .stages) g → Stand (G .stages) e
-      → T (M (λ s. test G f (bind e x s)) (λ s. test G g (bind e y s)) (value e t))
-      → Derives G (λ s. encode G f (bind e x s)) (λ s. encode G g (bind e y s)) K empty (value e t)
+      → T (holds (λ s. test G f (bind e x s)) (λ s. test G g (bind e y s)) (value e t))
+      → Derives G (meant f (bind e x)) (meant g (bind e y)) K empty (value e t)
       (along G K (entry G f (bind e x) (λ s. writtenOn G f (bind e x s))) (entry G g (bind e y) (λ s. writtenOn G g (bind e y s)))
       (suc (G .stages)) empty (value e t))
-  modal₂-writes K M law x f y g t wf wg e b d u = law _ _ _ _ _ _ (under f wf (b .1) e d x) (under g wg (b .2) e d y) (value e t) (term-stands d t (b .0)) u
+  modal₂-writes K holds law x f y g t wf wg e b d u =
+      law _ _ _ _ (entry-proves f wf (b .1) (bind e x) (λ s h. bind-stands d x h)) (entry-proves g wg (b .2) (bind e y) (λ s h. bind-stands d y h))
+      (value e t) (term-stands d t (b .0)) u
 
   -- Two formulas joined. Their variables stand alike at every stage.
-  joined-writes : (K : Kind) (M : Stages → Stages → Stages) → Law K M → (f g : Formula) → Writes f → Writes g
-      → (e : Env) → Below (G .stages) f × Below (G .stages) g → Stand (G .stages) e → T (M (λ s. test G f e) (λ s. test G g e) 0)
-      → Derives G (λ s. encode G f e) (λ s. encode G g e) K empty 0
+  joined-writes : (K : Kind) (holds : Stages → Stages → Stages) → Law K holds → (f g : Formula) → Writes f → Writes g
+      → (e : Env) → Below (G .stages) f × Below (G .stages) g → Stand (G .stages) e → T (holds (λ s. test G f e) (λ s. test G g e) 0)
+      → Derives G (meant f (λ s. e)) (meant g (λ s. e)) K empty 0
       (along G K (entry G f (λ s. e) (λ s. writtenOn G f e)) (entry G g (λ s. e) (λ s. writtenOn G g e)) (suc (G .stages)) empty 0)
-  joined-writes K M law f g wf wg e b d u =
-      law _ _ _ _ _ _ (record { at = λ s h. wf e (b .0) d }) (record { at = λ s h. wg e (b .1) d }) 0 (omega (arith, d 0)) u
+  joined-writes K holds law f g wf wg e b d u =
+      law _ _ _ _ (entry-proves f wf (b .0) (λ s. e) (λ s h. d)) (entry-proves g wg (b .1) (λ s. e) (λ s h. d)) 0 (omega (arith, d 0)) u
 
--- THE CERTIFICATE WE WRITE IS A PROOF: what is written for a formula that holds is the steps of a derivation of it.
+-- THE CERTIFICATE WE WRITE IS A PROOF, AND OURS: what is written for a formula that holds is the steps of a derivation of it, every rule of which is the
+-- one that document 01 names.
+pub written-ours : {G : Graph} → Readable G → (f : Formula) (e : Env) → Below (G .stages) f → Stand (G .stages) e → T (test G f e)
+    → (d : Derived G f e) × Ours G f e d × (encode G f e d ≡ written G f e)
+written-ours R truth = λ e b d t. (tt, refl, refl)
+written-ours R falsity = λ e b d t. absurd t
+written-ours R (is q) = λ e b d t. (t, refl, refl)
+written-ours R (isNot q) = λ e b d t. (t, refl, refl)
+written-ours R (and f g) = joined-writes R Kind.And (λ a b s. a s && b s) (and-derives R) f g (written-ours R f) (written-ours R g)
+written-ours R (or f g) = joined-writes R Kind.Or (λ a b s. a s || b s) (or-derives R) f g (written-ours R f) (written-ours R g)
+written-ours {G} R (AX x f t) = modal-writes R Kind.AX (eachNext G) (ax-derives R) x f t (written-ours R f)
+written-ours {G} R (EX x f t) = modal-writes R Kind.EX (someNext G) (ex-derives R) x f t (written-ours R f)
+written-ours {G} R (AF x f t) = modal-writes R Kind.AF (af G) (af-derives R) x f t (written-ours R f)
+written-ours {G} R (EG x f t) = modal-writes R Kind.EG (eg G) (eg-derives R) x f t (written-ours R f)
+written-ours {G} R (AR x f y g t) = modal₂-writes R Kind.AR (ar G) (ar-derives R) x f y g t (written-ours R f) (written-ours R g)
+written-ours {G} R (EU x f y g t) = modal₂-writes R Kind.EU (eu G) (eu-derives R) x f y g t (written-ours R f) (written-ours R g)
+
+-- The same with nothing said of the rules.
 pub written-derived : {G : Graph} → Readable G → (f : Formula) (e : Env) → Below (G .stages) f → Stand (G .stages) e → T (test G f e)
     → (d : Derived G f e) × (encode G f e d ≡ written G f e)
-written-derived R truth = λ e b d t. (tt, refl)
-written-derived R falsity = λ e b d t. absurd t
-written-derived R (is q) = λ e b d t. (t, refl)
-written-derived R (isNot q) = λ e b d t. (t, refl)
-written-derived {G} R (and f g) = joined-writes G Kind.And (λ a b s. a s && b s) (and-derives R) f g (written-derived R f) (written-derived R g)
-written-derived {G} R (or f g) = joined-writes G Kind.Or (λ a b s. a s || b s) (or-derives R) f g (written-derived R f) (written-derived R g)
-written-derived {G} R (AX x f t) = modal-writes G Kind.AX (eachNext G) (ax-derives R) x f t (written-derived R f)
-written-derived {G} R (EX x f t) = modal-writes G Kind.EX (someNext G) (ex-derives R) x f t (written-derived R f)
-written-derived {G} R (AF x f t) = modal-writes G Kind.AF (af G) (af-derives R) x f t (written-derived R f)
-written-derived {G} R (EG x f t) = modal-writes G Kind.EG (eg G) (eg-derives R) x f t (written-derived R f)
-written-derived {G} R (AR x f y g t) = modal₂-writes G Kind.AR (ar G) (ar-derives R) x f y g t (written-derived R f) (written-derived R g)
-written-derived {G} R (EU x f y g t) = modal₂-writes G Kind.EU (eu G) (eu-derives R) x f y g t (written-derived R f) (written-derived R g)
+written-derived R f e b d t = let p = written-ours R f e b d t in (p .0, p .2)
 
 module _ {G : Graph} (R : Readable G) (f : Formula) (e : Env) (b : Below (G .stages) f) (d : Stand (G .stages) e) where
   -- The same of a formula that holds.

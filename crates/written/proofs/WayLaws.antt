@@ -4,6 +4,7 @@
 --     way-within, within-way     what k rounds reach
 --     first-steps                what rounds reach is a now, or has a and a successor that fewer rounds reach
 --     nearest-is-nearest         the nearest successor
+--     lowest-in                  the lowest successor
 --     one-lowest, one-nearest    there is one lowest number with a property, and one nearest successor
 use Prim.Native.Nat.{ℕ, zero, suc, _≤_, _<_}
 use native.Mathlib.Omega.{arith}
@@ -11,10 +12,11 @@ use mathlib.Core.Path.{_≡_, subst}
 use mathlib.Core.Logic.{_↔_, _⊎_, inl, inr, ⊎-elim}
 use lib.Dec.{T}
 use Rattle.model.specs.Graph.{Graph, Next, Readable}
+use Rattle.logic.specs.Meaning.{AtSomeNext}
 use Rattle.logic.specs.Test.{Stages, iter, eu}
 use Rattle.logic.proofs.Successors.{some-next}
 use Rattle.logic.proofs.Compare.{Says}
-use Rattle.written.specs.Choice.{within, fewest, nearest}
+use Rattle.written.specs.Choice.{lowestNext, within, fewest, nearest}
 use Rattle.written.specs.Ways.{Lowest, Way, Nearest}
 use Rattle.written.proofs.LowestLaws.{below?, lowest-one, lowest-next, lowest-next-first, within-suc, within-more, Near, fewest-near, fewest-least}
 
@@ -80,6 +82,16 @@ module _ {G : Graph} (R : Readable G) (a b : Stages) (A B : ℕ → Type 0) (say
 
       exact : r .0 ≡ k
       exact = omega (arith, r .1, at-most s (nearest G a b s) (r .0) (n .0) (r .2))
+
+-- The lowest successor in a set that says P, where some successor is in it, is the lowest successor with P.
+pub lowest-in : {G : Graph} → Readable G → {p : Stages} {P : ℕ → Type 0} → Says (G .stages) p P → (s : ℕ) → AtSomeNext G (λ u. T (p u)) s
+    → Lowest (λ u. Next G s u × P u) (lowestNext G p s)
+lowest-in {G} R {p} says s h =
+    let c = lowest-next R p s h in
+    record {
+      has = (c .0, says .at (lowestNext G p s) (R .inside s (lowestNext G p s) (c .0) .1) .0 (c .1));
+      none = λ u l v. lowest-next-first R p s u l (v .0) (says .at u (R .inside s u (v .0) .1) .1 (v .1));
+    }
 
 -- There is one lowest number with a property,
 pub one-lowest : {P : ℕ → Type 0} {c d : ℕ} → Lowest P c → Lowest P d → c ≡ d

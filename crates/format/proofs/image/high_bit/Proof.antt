@@ -1,8 +1,8 @@
--- `format::image::high_bit` meets its contract: the loop has found no high bit in the first i sets.
+-- `format::image::high_bit` meets its contract: the plain sets have no high bit, and the loop has found none in those from there to i.
 -- Assumes nothing.
-use Prim.Native.Nat.{ℕ, _≤_, _<_, _-_}
+use Prim.Native.Nat.{ℕ, _<_, _-_}
 use native.Mathlib.Omega.{arith}
-use borrow.Author.Count.{below-more, below-none}
+use borrow.Author.Count.{below-more}
 use Rattle.format.specs.Image.{HighBitIn}
 use Rattle.model.specs.Decides.{granted, denied}
 use Rattle.format.proofs.ImageLaws.{has-all, count-is, some-high, none-high}
@@ -11,10 +11,10 @@ use Rattle.format.proofs.image.high_bit.Statement.{statement}
 use Rattle.format.proofs.image.high_bit.Tie as tie
 
 abbrev Inv-loop : tie.InvT-loop
-Inv-loop image all count i₀ i = (i ≤ count) × ((k : ℕ) → k < i → HighBitIn image k → ⊥)
+Inv-loop image plain all count i₀ i = (k : ℕ) → k < i → HighBitIn image k → ⊥
 
 abbrev μ-loop : tie.MeasureT-loop
-μ-loop image all count i₀ i = count - i
+μ-loop image plain all count i₀ i = count - i
 
 byte-requires : tie.Need-byte-requires Inv-loop μ-loop
 byte-requires c κs = search needs
@@ -32,7 +32,7 @@ first-set-requires : tie.Need-first-set-requires Inv-loop μ-loop
 first-set-requires c κs = search needs
 
 loop-holds : tie.Need-loop-holds Inv-loop μ-loop
-loop-holds c = (search needs, below-none _)
+loop-holds c = c .before .before .before .before .before .pre .1 .low
 
 set-requires : tie.Need-set-requires Inv-loop μ-loop
 set-requires c κs = search needs
@@ -56,7 +56,7 @@ returns c =
       set = turn .i;
       one-of = omega (arith, count-is image _ _ (first-set .ensures .is) (byte2 .ensures));
       at =
-          some-high image _ _ _ (set′ .ensures) (has-all image _ _ (byte .ensures) (pre .stages) (below .ensures))
+          some-high image _ _ _ (set′ .ensures) (has-all image _ _ (byte .ensures) (pre .0 .stages) (below .ensures))
           (denied (subset .result) _ (subset .ensures) (c .if1 .taken));
     }
 
@@ -75,19 +75,17 @@ loop-again c =
     let pre = c .before .before .before .before .before .before .before .before .before .before .pre in
     let below = c .before .before .before .before .before .before .before .below in
     let subset = c .before .subset in
-    let image = args .image .now in (
-      omega arith,
-      below-more _ _ (turn .inv .1)
-          (none-high image _ _ _ (set .ensures) (has-all image _ _ (byte .ensures) (pre .stages) (below .ensures))
-          (granted (subset .result) _ (subset .ensures) (c .if1 .left))),
-    )
+    let image = args .image .now in
+    below-more _ _ (turn .inv)
+    (none-high image _ _ _ (set .ensures) (has-all image _ _ (byte .ensures) (pre .0 .stages) (below .ensures))
+    (granted (subset .result) _ (subset .ensures) (c .if1 .left)))
 
 returns-2 : tie.Need-returns-2 Inv-loop μ-loop
 returns-2 c =
     let turn = c .before .loop in
     let first-set = c .before .before .first-set in
     let byte2 = c .before .before .before .byte2 in
-    λ h. turn .inv .1 (h .set) (omega (arith, count-is _ _ _ (first-set .ensures .is) (byte2 .ensures), h .one-of)) (h .at)
+    λ h. turn .inv (h .set) (omega (arith, count-is _ _ _ (first-set .ensures .is) (byte2 .ensures), h .one-of)) (h .at)
 
 pub high-bit-spec : {M : Type 1} → statement M
 high-bit-spec =

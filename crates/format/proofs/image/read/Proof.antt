@@ -4,7 +4,7 @@ use mathlib.Core.Path.{_≡_, refl}
 use mathlib.Core.Logic.{inl, inr}
 use native.Mathlib.Omega.{arith}
 use Rattle.model.specs.Decides.{decided, refuted, granted, denied}
-use Rattle.format.proofs.ImageLaws.{count-is}
+use Rattle.format.proofs.ImageLaws.{count-is, plain-stop, plain-all}
 use Rattle.format.proofs.RefusalLaws.{passed}
 use borrow.Author.Needs.{needs}
 use Rattle.format.proofs.image.read.Statement.{statement}
@@ -44,20 +44,20 @@ returns-3 c =
       ),
     )
 
+plain-sets-requires : tie.Need-plain-sets-requires
+plain-sets-requires c κs = granted (c .before .before .before .sizes-fit .result) _ (c .before .before .before .sizes-fit .ensures) (c .before .before .if2 .left)
+
 high-bit-requires : tie.Need-high-bit-requires
-high-bit-requires c κs =
-    let sizes-fit = c .before .before .before .sizes-fit in
-    let if2 = c .before .before .if2 in
-    granted (sizes-fit .result) _ (sizes-fit .ensures) (if2 .left)
+high-bit-requires c κs = (granted (c .before .before .before .before .sizes-fit .result) _ (c .before .before .before .before .sizes-fit .ensures) (c .before .before .before .if2 .left), c .plain-sets .ensures)
 
 returns-4 : tie.Need-returns-4
 returns-4 c =
-    let begins = c .before .before .before .before .before .before .before .begins in
-    let if1 = c .before .before .before .before .before .before .if1 in
-    let sizes-fit = c .before .before .before .before .before .sizes-fit in
-    let if2 = c .before .before .before .before .if2 in
-    let length-fits = c .before .before .before .length-fits in
-    let if3 = c .before .before .if3 in
+    let begins = c .before .before .before .before .before .before .before .before .begins in
+    let if1 = c .before .before .before .before .before .before .before .if1 in
+    let sizes-fit = c .before .before .before .before .before .before .sizes-fit in
+    let if2 = c .before .before .before .before .before .if2 in
+    let length-fits = c .before .before .before .before .length-fits in
+    let if3 = c .before .before .before .if3 in
     let high-bit = c .before .high-bit in
     inr (
       passed (granted (begins .result) _ (begins .ensures) (if1 .left)),
@@ -70,42 +70,38 @@ returns-4 c =
       ),
     )
 
-dead-stop-requires : tie.Need-dead-stop-requires
-dead-stop-requires c κs = search needs
+byte-requires : tie.Need-byte-requires
+byte-requires c κs = search needs
+
+cast-n : tie.Need-cast-n
+cast-n c = search needs
 
 returns-5 : tie.Need-returns-5
 returns-5 c =
-    let begins = c .before .before .before .before .before .before .before .before .before .begins in
-    let if1 = c .before .before .before .before .before .before .before .before .if1 in
-    let sizes-fit = c .before .before .before .before .before .before .before .sizes-fit in
-    let if2 = c .before .before .before .before .before .before .if2 in
-    let length-fits = c .before .before .before .before .before .length-fits in
-    let if3 = c .before .before .before .before .if3 in
+    let begins = c .before .before .before .before .before .before .before .before .before .before .begins in
+    let if1 = c .before .before .before .before .before .before .before .before .before .if1 in
+    let sizes-fit = c .before .before .before .before .before .before .before .before .sizes-fit in
+    let if2 = c .before .before .before .before .before .before .before .if2 in
+    let length-fits = c .before .before .before .before .before .before .length-fits in
+    let if3 = c .before .before .before .before .before .if3 in
+    let plain-sets = c .before .before .before .before .plain-sets in
     let high-bit = c .before .before .before .high-bit in
     let if4 = c .before .before .if4 in
-    let dead-stop = c .before .dead-stop in
+    let byte = c .before .byte in
+    let low = refuted _ (high-bit .ensures) (if4 .left) in
     inr (
       passed (granted (begins .result) _ (begins .ensures) (if1 .left)),
       inr (
         passed (granted (sizes-fit .result) _ (sizes-fit .ensures) (if2 .left)),
         inr (
           passed (granted (length-fits .result) _ (length-fits .ensures) (if3 .left)),
-          inr (
-            refuted _ (high-bit .ensures) (if4 .left),
-            inl (refl, decided _ (dead-stop .ensures) (c .if5 .taken)),
-          ),
+          inr (low, inl (refl, plain-stop _ _ (plain-sets .ensures) low (omega (arith, byte .ensures, c .if5 .taken)))),
         ),
       ),
     )
 
-byte-requires : tie.Need-byte-requires
-byte-requires c κs = search needs
-
 byte-requires-2 : tie.Need-byte-requires-2
 byte-requires-2 c κs = search needs
-
-cast-t13 : tie.Need-cast-t13
-cast-t13 c = search needs
 
 cast-t14 : tie.Need-cast-t14
 cast-t14 c = search needs
@@ -121,12 +117,12 @@ returns-6 c =
     let if2 = c .before .before .before .before .before .before .before .before .before .if2 in
     let length-fits = c .before .before .before .before .before .before .before .before .length-fits in
     let if3 = c .before .before .before .before .before .before .before .if3 in
-    let high-bit = c .before .before .before .before .before .before .high-bit in
-    let if4 = c .before .before .before .before .before .if4 in
-    let dead-stop = c .before .before .before .before .dead-stop in
-    let if5 = c .before .before .before .if5 in
+    let plain-sets = c .before .before .before .before .before .before .plain-sets in
+    let high-bit = c .before .before .before .before .before .high-bit in
+    let if4 = c .before .before .before .before .if4 in
+    let if5 = c .before .before .if5 in
+    let byte = c .before .before .before .byte in
     let byte2 = c .before .byte2 in
-    let byte = c .before .before .byte in
     record {
       clear = (
         passed (granted (begins .result) _ (begins .ensures) (if1 .left)),
@@ -137,14 +133,14 @@ returns-6 c =
             (
               refuted _ (high-bit .ensures) (if4 .left),
               (
-                refuted _ (dead-stop .ensures) (if5 .left),
+                plain-all _ _ (plain-sets .ensures) (omega (arith, byte .ensures, if5 .left)),
                 tt,
               ),
             ),
           ),
         ),
       );
-      is = λ i. record { stages = byte2 .ensures i; predicates = byte .ensures i; sets = count-is _ _ _ (c .first-set .ensures .is) (byte .ensures) i };
+      is = λ i. record { stages = byte .ensures i; predicates = byte2 .ensures i; sets = count-is _ _ _ (c .first-set .ensures .is) (byte2 .ensures) i };
     }
 
 pub read-spec : {M : Type 1} → statement M
@@ -157,13 +153,13 @@ read-spec =
     returns-2
     length-fits-requires
     returns-3
+    plain-sets-requires
     high-bit-requires
     returns-4
-    dead-stop-requires
-    returns-5
     byte-requires
+    cast-n
+    returns-5
     byte-requires-2
-    cast-t13
     cast-t14
     first-set-requires
     returns-6)

@@ -8,6 +8,7 @@ use Rattle.format.specs.Table.{tableConditions}
 use Rattle.format.specs.declared.Refusal.the-variants as R
 use Rattle.format.proofs.RefusalLaws.{passed, given-later, clear-both}
 use Rattle.format.proofs.ReadingLaws.{all-small}
+use Rattle.format.proofs.RootLaws.{roots-of}
 use borrow.Author.Needs.{needs}
 use Rattle.format.proofs.table.read_with.Statement.{statement}
 use Rattle.format.proofs.table.read_with.Tie as tie
@@ -58,8 +59,8 @@ returns-3 c =
       ),
     ))
 
-operand-twice-requires : tie.Need-operand-twice-requires
-operand-twice-requires c κs =
+noted-all-requires : tie.Need-noted-all-requires
+noted-all-requires c κs =
     let args = c .before .before .before .before .before .before .before .before .args in
     let entries-fit = c .before .before .before .entries-fit in
     let if2 = c .before .before .if2 in
@@ -77,7 +78,7 @@ returns-4 c =
     let if2 = c .before .before .before .before .if2 in
     let bad-record = c .before .before .before .bad-record in
     let if3 = c .before .before .if3 in
-    let operand-twice = c .before .operand-twice in
+    let noted-all = c .before .noted-all in
     let image = args .image .now in
     let table = args .table .now in
     given-later (imageConditions image) (tableConditions image table) R.OperandTwice (pre .clear)
@@ -87,26 +88,37 @@ returns-4 c =
         passed (granted (entries-fit .result) _ (entries-fit .ensures) (if2 .left)),
         inr (
           refuted _ (bad-record .ensures) (if3 .left),
-          inl (refl, decided _ (operand-twice .ensures) (c .if4 .taken)),
+          inl (refl, decided _ (noted-all .ensures .twice) (c .if4 .taken)),
         ),
       ),
     ))
 
-nested-too-deep-requires : tie.Need-nested-too-deep-requires
-nested-too-deep-requires c κs = search needs
+slice-aggregate-nested-too-deep : tie.Need-slice-aggregate-nested-too-deep
+slice-aggregate-nested-too-deep c = search needs
 
-returns-5 : tie.Need-returns-5
-returns-5 c =
+nested-too-deep-requires : tie.Need-nested-too-deep-requires
+nested-too-deep-requires c κs =
     let args = c .before .before .before .before .before .before .before .before .before .before .before .before .args in
-    let pre = c .before .before .before .before .before .before .before .before .before .before .before .before .pre in
-    let begins = c .before .before .before .before .before .before .before .before .before .begins in
-    let if1 = c .before .before .before .before .before .before .before .before .if1 in
     let entries-fit = c .before .before .before .before .before .before .before .entries-fit in
     let if2 = c .before .before .before .before .before .before .if2 in
     let bad-record = c .before .before .before .before .before .bad-record in
     let if3 = c .before .before .before .before .if3 in
-    let operand-twice = c .before .before .before .operand-twice in
-    let if4 = c .before .before .if4 in
+    let noted-all = c .before .before .before .noted-all in
+    roots-of (args .image .now) (args .table .now) (noted-all .result) (granted (entries-fit .result) _ (entries-fit .ensures) (if2 .left))
+    (refuted _ (bad-record .ensures) (if3 .left)) (noted-all .ensures)
+
+returns-5 : tie.Need-returns-5
+returns-5 c =
+    let args = c .before .before .before .before .before .before .before .before .before .before .before .before .before .before .args in
+    let pre = c .before .before .before .before .before .before .before .before .before .before .before .before .before .before .pre in
+    let begins = c .before .before .before .before .before .before .before .before .before .before .before .begins in
+    let if1 = c .before .before .before .before .before .before .before .before .before .before .if1 in
+    let entries-fit = c .before .before .before .before .before .before .before .before .before .entries-fit in
+    let if2 = c .before .before .before .before .before .before .before .before .if2 in
+    let bad-record = c .before .before .before .before .before .before .before .bad-record in
+    let if3 = c .before .before .before .before .before .before .if3 in
+    let noted-all = c .before .before .before .before .before .noted-all in
+    let if4 = c .before .before .before .before .if4 in
     let nested-too-deep = c .before .nested-too-deep in
     let image = args .image .now in
     let table = args .table .now in
@@ -118,7 +130,7 @@ returns-5 c =
         inr (
           refuted _ (bad-record .ensures) (if3 .left),
           inr (
-            refuted _ (operand-twice .ensures) (if4 .left),
+            refuted _ (noted-all .ensures .twice) (if4 .left),
             inl (refl, decided _ (nested-too-deep .ensures) (c .if5 .taken)),
           ),
         ),
@@ -128,21 +140,21 @@ returns-5 c =
 byte-requires : tie.Need-byte-requires
 byte-requires c κs = search needs
 
-cast-t15 : tie.Need-cast-t15
-cast-t15 c = search needs
+cast-t18 : tie.Need-cast-t18
+cast-t18 c = search needs
 
 returns-6 : tie.Need-returns-6
 returns-6 c =
-    let args = c .before .before .before .before .before .before .before .before .before .before .before .before .before .args in
-    let pre = c .before .before .before .before .before .before .before .before .before .before .before .before .before .pre in
-    let begins = c .before .before .before .before .before .before .before .before .before .before .begins in
-    let if1 = c .before .before .before .before .before .before .before .before .before .if1 in
-    let entries-fit = c .before .before .before .before .before .before .before .before .entries-fit in
-    let if2 = c .before .before .before .before .before .before .before .if2 in
-    let bad-record = c .before .before .before .before .before .before .bad-record in
-    let if3 = c .before .before .before .before .before .if3 in
-    let operand-twice = c .before .before .before .before .operand-twice in
-    let if4 = c .before .before .before .if4 in
+    let args = c .before .before .before .before .before .before .before .before .before .before .before .before .before .before .before .args in
+    let pre = c .before .before .before .before .before .before .before .before .before .before .before .before .before .before .before .pre in
+    let begins = c .before .before .before .before .before .before .before .before .before .before .before .before .begins in
+    let if1 = c .before .before .before .before .before .before .before .before .before .before .before .if1 in
+    let entries-fit = c .before .before .before .before .before .before .before .before .before .before .entries-fit in
+    let if2 = c .before .before .before .before .before .before .before .before .before .if2 in
+    let bad-record = c .before .before .before .before .before .before .before .before .bad-record in
+    let if3 = c .before .before .before .before .before .before .before .if3 in
+    let noted-all = c .before .before .before .before .before .before .noted-all in
+    let if4 = c .before .before .before .before .before .if4 in
     let nested-too-deep = c .before .before .nested-too-deep in
     let if5 = c .before .if5 in
     let image = args .image .now in
@@ -156,7 +168,7 @@ returns-6 c =
               (
                 refuted _ (bad-record .ensures) (if3 .left),
                 (
-                  refuted _ (operand-twice .ensures) (if4 .left),
+                  refuted _ (noted-all .ensures .twice) (if4 .left),
                   (
                     refuted _ (nested-too-deep .ensures) (if5 .left),
                     tt,
@@ -178,10 +190,11 @@ read-with-spec =
     returns-2
     bad-record-requires
     returns-3
-    operand-twice-requires
+    noted-all-requires
     returns-4
+    slice-aggregate-nested-too-deep
     nested-too-deep-requires
     returns-5
     byte-requires
-    cast-t15
+    cast-t18
     returns-6)

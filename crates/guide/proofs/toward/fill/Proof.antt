@@ -1,5 +1,6 @@
 -- `guide::toward::fill` meets its contract: every stage below n is new.
 use borrow.Author.Needs.{needs}
+use Rattle.modal.proofs.LawsMember.{inside-all}
 use Rattle.guide.proofs.TowardLaws.{fill-each}
 use Rattle.guide.proofs.toward.fill.Statement.{statement}
 use Rattle.guide.proofs.toward.fill.Tie as tie
@@ -8,16 +9,13 @@ below-requires : tie.Need-below-requires
 below-requires c κs = search needs
 
 settle-requires : tie.Need-settle-requires
-settle-requires c κs = search needs
+settle-requires c κs = (c .before .before .before .before .pre .0, c .before .before .before .before .pre .1, inside-all (c .before .below .ensures))
 
 same-length : tie.Need-same-length
 same-length c = search needs
 
 returns : tie.Need-returns
-returns c =
-    let start = c .before .before .before .before .before .before .before in
-    fill-each (start .args .next .now) (start .args .n) _ _ (start .pre .0) (c .before .before .before .before .below .ensures)
-    (c .before .before .settle .ensures)
+returns c = fill-each (c .before .before .before .before .before .before .before .args .next .now) (c .before .before .before .before .before .before .before .args .n) _ _ (c .before .before .before .before .before .before .before .pre .0) (c .before .before .before .before .below .ensures) (c .before .before .settle .ensures)
 
 pub fill-spec : {M : Type 1} → statement M
 fill-spec = tie.close (tie.spec below-requires settle-requires same-length returns)

@@ -13,50 +13,43 @@ use Rattle.guide.proofs.toward.nearest.Statement.{statement}
 use Rattle.guide.proofs.toward.nearest.Tie as tie
 
 abbrev Inv-loop : tie.InvT-loop
-Inv-loop next n a toward₀ near₀ done₀ k₀ toward near done k =
+Inv-loop next n a toward₀ near₀ away₀ k₀ toward near away k =
     (k ≤ n) × (length toward ≡ length toward₀)
-    × ((G : Graph) → Row next n G → Nearing G (member (number a)) (member (number near₀)) k (number near) (number done) toward₀ toward)
+    × ((G : Graph) → Row next n G → Nearing G (member (number a)) (member (number near₀)) k (number near) (number away) toward₀ toward)
 
 abbrev μ-loop : tie.MeasureT-loop
-μ-loop next n a toward₀ near₀ done₀ k₀ toward near done k = n - k
+μ-loop next n a toward₀ near₀ away₀ k₀ toward near away k = n - k
 
-empty-requires : tie.Need-empty-requires Inv-loop μ-loop
-empty-requires c κs = search needs
+below-requires : tie.Need-below-requires Inv-loop μ-loop
+below-requires c κs = search needs
 
 loop-holds : tie.Need-loop-holds Inv-loop μ-loop
-loop-holds c = (search needs, search needs, λ G R. nearing-start R _ _ (c .empty .ensures) (c .before .before .before .pre .2))
+loop-holds c = (search needs, search needs, λ G R. nearing-start R _ _ (c .below .ensures) (c .before .before .before .pre .2))
 
-some-next-requires : tie.Need-some-next-requires Inv-loop μ-loop
-some-next-requires c κs = search needs
-
-minus-requires : tie.Need-minus-requires Inv-loop μ-loop
-minus-requires c κs = search needs
+some-next-among-requires : tie.Need-some-next-among-requires Inv-loop μ-loop
+some-next-among-requires c κs = search needs
 
 is-empty-requires : tie.Need-is-empty-requires Inv-loop μ-loop
 is-empty-requires c κs = search needs
 
 same-length : tie.Need-same-length Inv-loop μ-loop
-same-length c = c .before .before .before .before .before .loop .inv .1
+same-length c = c .before .before .before .before .loop .inv .1
 
 returns : tie.Need-returns Inv-loop μ-loop
 returns c =
-    let inv = c .before .before .before .before .before .loop .inv in
-    λ G R. nearing-rest R _ _ _ (inv .2 G R) (c .before .before .before .some-next .ensures) (c .before .before .minus .ensures)
-    (decided _ (c .before .is-empty .ensures) (c .if1 .taken))
+    λ G R. nearing-rest R _ _ _ (c .before .before .before .before .loop .inv .2 G R) (c .before .before .some-next-among .ensures) (decided _ (c .before .is-empty .ensures) (c .if1 .taken))
 
 settle-requires : tie.Need-settle-requires Inv-loop μ-loop
-settle-requires c κs =
-    let pre = c .before .before .before .before .before .before .before .before .before .before .pre in
-    (search needs, omega (arith, c .before .before .before .before .before .before .loop .inv .1, pre .1))
+settle-requires c κs = (c .before .before .before .before .before .before .before .before .before .pre .0, omega (arith, c .before .before .before .before .before .loop .inv .1, c .before .before .before .before .before .before .before .before .before .pre .1), c .before .before .before .some-next-among .ensures .inside)
 
-union-requires : tie.Need-union-requires Inv-loop μ-loop
-union-requires c κs = search needs
+minus-requires : tie.Need-minus-requires Inv-loop μ-loop
+minus-requires c κs = search needs
 
 common-requires : tie.Need-common-requires Inv-loop μ-loop
 common-requires c κs = search needs
 
-union-requires-2 : tie.Need-union-requires-2 Inv-loop μ-loop
-union-requires-2 c κs = search needs
+union-requires : tie.Need-union-requires Inv-loop μ-loop
+union-requires c κs = search needs
 
 add-k : tie.Need-add-k Inv-loop μ-loop
 add-k c = search needs
@@ -66,16 +59,13 @@ loop-less c = search needs
 
 loop-again : tie.Need-loop-again Inv-loop μ-loop
 loop-again c =
-    let inv = c .before .before .before .before .before .before .before .before .before .before .before .before .loop .inv in
-    let some-next = c .before .before .before .before .before .before .before .before .before .before .some-next in
-    let minus = c .before .before .before .before .before .before .before .before .before .minus in
-    let settle = c .before .before .before .before .before .settle in
-    let union = c .before .before .union in
-    let taken = c .before .before .before .before .before .before .before .before .before .before .before .loop-test .taken in (
+    let inv = c .before .before .before .before .before .before .before .before .before .before .before .loop .inv in
+    let new = c .before .before .before .before .before .before .before .before .before .some-next-among in
+    let settle = c .before .before .before .before .before .settle in (
       search needs,
       settle .ensures .size ∙ inv .1,
-      λ G R. nearing-more R _ _ _ (inv .2 G R) (some-next .ensures) (minus .ensures) taken (settle .ensures) (union .ensures)
-          (c .before .common .ensures) (c .union2 .ensures),
+      λ G R. nearing-more R _ _ _ (inv .2 G R) (new .ensures) (c .before .before .before .before .before .before .before .before .before .before .loop-test .taken) (settle .ensures) (c .before .before .minus .ensures)
+          (c .before .common .ensures) (c .union .ensures),
     )
 
 same-length-2 : tie.Need-same-length-2 Inv-loop μ-loop
@@ -90,17 +80,16 @@ nearest-spec =
     (tie.spec
     Inv-loop
     μ-loop
-    empty-requires
+    below-requires
     loop-holds
-    some-next-requires
-    minus-requires
+    some-next-among-requires
     is-empty-requires
     same-length
     returns
     settle-requires
-    union-requires
+    minus-requires
     common-requires
-    union-requires-2
+    union-requires
     add-k
     loop-less
     loop-again

@@ -1,63 +1,62 @@
--- `guide::toward::settle` meets its contract. The loop's invariant: the new stages below s are led to their lowest successor in the set.
-use mathlib.Core.Logic.{⊎-elim}
-use Prim.Native.Nat.{_≤_, _<_, _-_}
+-- `guide::toward::settle` meets its contract. The loop's invariant: the new stages that are not left are led to their lowest successor in the set.
+use mathlib.Core.Path.{refl}
 use native.Mathlib.Omega.{arith}
 use borrow.Author.Needs.{needs}
-use lib.ListN.{length}
+use borrow.Author.Tests.{not-true, not-false}
+use lib.Count.{ones}
+use Rattle.model.specs.Decides.{decided, refuted}
 use Rattle.sets.specs.Number.{number}
-use Rattle.guide.specs.Toward.{Filled, settled}
-use Rattle.guide.proofs.TowardLaws.{filled-start, filled-end, settle-new, settle-old}
+use Rattle.sets.proofs.LawsFits.{number-lt}
+use Rattle.sets.proofs.LawsWalk.{walk-falls}
+use Rattle.guide.proofs.TowardLaws.{Settling, settle-start, settle-stage, settle-turn, settle-end}
 use Rattle.guide.proofs.toward.settle.Statement.{statement}
 use Rattle.guide.proofs.toward.settle.Tie as tie
 
 abbrev Inv-loop : tie.InvT-loop
-Inv-loop next n new set toward₀ s₀ toward s = (s ≤ n) × Filled s (settled next n (number new) (number set) toward₀) toward₀ toward
+Inv-loop next n set toward₀ left₀ toward left = Settling next n (number left₀) (number set) toward₀ (number left) toward
 
 abbrev μ-loop : tie.MeasureT-loop
-μ-loop next n new set toward₀ s₀ toward s = n - s
+μ-loop next n set toward₀ left₀ toward left = ones (number left)
 
 loop-holds : tie.Need-loop-holds Inv-loop μ-loop
-loop-holds c = (search needs, filled-start _ _)
+loop-holds c = settle-start _ _ _ _ (number-lt _ _ (c .before .before .good .1 .1 .0)) (c .before .before .pre .2)
 
-has-requires : tie.Need-has-requires Inv-loop μ-loop
-has-requires c κs = search needs
+is-empty-requires : tie.Need-is-empty-requires Inv-loop μ-loop
+is-empty-requires c κs = search needs
+
+lowest-requires : tie.Need-lowest-requires Inv-loop μ-loop
+lowest-requires c κs = search needs
 
 lowest-next-requires : tie.Need-lowest-next-requires Inv-loop μ-loop
-lowest-next-requires c κs = search needs
+lowest-next-requires c κs = c .before .before .before .before .before .before .pre .0
 
 slice-write-toward : tie.Need-slice-write-toward Inv-loop μ-loop
 slice-write-toward c =
-    let start = c .before .before .before .before .before .before .before in
-    let loop = c .before .before .before .before .loop in
-    omega (arith, loop .inv .1 .size, start .pre .1)
+    let e = c .before .before .before .is-empty in
+    let below = settle-stage _ _ _ _ (c .before .before .before .before .loop .inv)
+    (record { some = refuted _ (e .ensures) (not-true (e .result) (c .before .before .if1 .taken)); lowest = c .before .lowest .ensures; others = refl }) in
+    omega (arith, below, c .before .before .before .before .loop .inv .filled .size, c .before .before .before .before .before .before .before .pre .1)
 
-add-s : tie.Need-add-s Inv-loop μ-loop
-add-s c = search needs
+rest-requires : tie.Need-rest-requires Inv-loop μ-loop
+rest-requires c κs = search needs
 
 loop-less : tie.Need-loop-less Inv-loop μ-loop
-loop-less c = search needs
+loop-less c =
+    let e = c .before .before .before .before .is-empty in
+    walk-falls (record { some = refuted _ (e .ensures) (not-true (e .result) (c .before .before .before .if1 .taken)); lowest = c .before .before .lowest .ensures; others = c .rest .ensures })
 
 loop-again : tie.Need-loop-again Inv-loop μ-loop
 loop-again c =
-    let start = c .before .before .before .before .before .before in
-    let loop = c .before .before .before .loop in
-    let has = c .before .has in
-    let args = start .args in
-    let next = args .next .now in
-    let size : loop .s < length (loop .toward) = omega (arith, loop .inv .1 .size, start .pre .1) in (
-      search needs,
-      ⊎-elim
-          (λ w. settle-new next (args .n) (number (args .new)) (number (args .set)) (loop .inv .1) (has .result) (has .ensures) _
-          (w .0 .taken) size (w .1 .ensures) (w .2))
-          (λ w. settle-old next (args .n) (number (args .new)) (number (args .set)) (loop .inv .1) (has .result) (has .ensures) (w .0 .left) (w .1))
-          (c .if1 .came),
-    )
+    let e = c .before .before .before .before .is-empty in
+    settle-turn _ _ _ _ (c .before .before .before .before .before .loop .inv)
+    (record { some = refuted _ (e .ensures) (not-true (e .result) (c .before .before .before .if1 .taken)); lowest = c .before .before .lowest .ensures; others = c .rest .ensures })
+    _ (c .before .before .before .before .before .before .before .before .pre .1) (c .before .lowest-next .ensures)
 
 same-length : tie.Need-same-length Inv-loop μ-loop
-same-length c = c .before .loop .inv .1 .size
+same-length c = c .before .before .loop .inv .filled .size
 
 returns : tie.Need-returns Inv-loop μ-loop
-returns c = filled-end (c .before .loop .inv .0) (c .loop-test .left) (c .before .loop .inv .1)
+returns c = settle-end _ _ _ _ (c .before .before .loop .inv) (decided _ (c .before .is-empty .ensures) (not-false (c .before .is-empty .result) (c .if1 .left)))
 
 pub settle-spec : {M : Type 1} → statement M
 settle-spec =
@@ -66,10 +65,11 @@ settle-spec =
     Inv-loop
     μ-loop
     loop-holds
-    has-requires
+    is-empty-requires
+    lowest-requires
     lowest-next-requires
     slice-write-toward
-    add-s
+    rest-requires
     loop-less
     loop-again
     same-length

@@ -3,6 +3,7 @@ use Prim.Native.Nat.{ℕ}
 use native.Mathlib.Omega.{arith}
 use borrow.Author.Needs.{needs}
 use Rattle.verdict.proofs.EvaluationLaws.{ready-lower}
+use Rattle.guide.proofs.TowardLaws.{cleared-new}
 use Rattle.writer.proofs.WroteLaws.{wrote-past, wrote-same}
 use Rattle.writer.proofs.StepLaws.{lower-operand, other-operand}
 use Rattle.writer.proofs.WriterLaws.{under-x, under-y, a-wrote, b-wrote, in-hand, from-the-start}
@@ -33,7 +34,7 @@ formula-slice-aggregate-guide t c = search needs
 pub formula-guide-requires : (t : ℕ) → formula-lts.Need-guide-requires (formula-claims t) (formula-at t) formula.Post
 formula-guide-requires t c κs =
     let pre = c .before .before .before .before .before .before .before .pre in
-    (pre .1, omega (arith, pre .1 .row .room))
+    (pre .1, omega (arith, pre .1 .row .room), cleared-new (pre .1 .row .room))
 
 pub formula-empty-requires : (t : ℕ) → formula-lts.Need-empty-requires (formula-claims t) (formula-at t) formula.Post
 formula-empty-requires t c κs = search needs

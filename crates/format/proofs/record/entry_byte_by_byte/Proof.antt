@@ -1,9 +1,9 @@
--- `format::record::entry` meets its contract: the six bytes from the entry's place, or none of them.
+-- `format::record::entry_byte_by_byte` meets its contract: the six bytes from the entry's place, or none of them.
 -- Assumes nothing.
 use Rattle.format.proofs.RecordLaws.{entry-past}
 use borrow.Author.Needs.{needs}
-use Rattle.format.proofs.record.entry.Statement.{statement}
-use Rattle.format.proofs.record.entry.Tie as tie
+use Rattle.format.proofs.record.entry_byte_by_byte.Statement.{statement}
+use Rattle.format.proofs.record.entry_byte_by_byte.Tie as tie
 
 returns : tie.Need-returns
 returns c = entry-past (c .before .before .args .table .now) _ (c .if1 .taken)
@@ -59,8 +59,8 @@ returns-2 c =
       t = c .byte6 .ensures i;
     }
 
-pub entry-spec : {M : Type 1} → statement M
-entry-spec =
+pub entry-byte-by-byte-spec : {M : Type 1} → statement M
+entry-byte-by-byte-spec =
     tie.close
     (tie.spec
     returns

@@ -1,4 +1,4 @@
--- `format::operands::operand_twice` meets its contract: the loop has noted the operands of the first e entries.
+-- `format::operands::noted_all` meets its contract: the loop has noted the operands of the first e entries.
 -- Assumes nothing.
 use Prim.Native.Nat.{_≤_, _-_}
 use mathlib.Core.Path.{subst⁻¹}
@@ -8,8 +8,8 @@ use Rattle.format.specs.Reading.{Flagged, OperandsSmall}
 use Rattle.format.specs.declared.record.Record.{Record}
 use Rattle.format.proofs.OperandLaws.{flagged-none, noted-entry, flagged-all}
 use borrow.Author.Needs.{needs}
-use Rattle.format.proofs.operands.operand_twice.Statement.{statement}
-use Rattle.format.proofs.operands.operand_twice.Tie as tie
+use Rattle.format.proofs.operands.noted_all.Statement.{statement}
+use Rattle.format.proofs.operands.noted_all.Tie as tie
 
 abbrev Inv-loop : tie.InvT-loop
 Inv-loop table m f₀ e₀ f e = (e ≤ m) × Flagged (operands table e) f
@@ -49,8 +49,8 @@ loop-again c = (omega arith, noted-entry _ _ _ _ _ (c .before .entry .ensures) (
 returns : tie.Need-returns Inv-loop μ-loop
 returns c = flagged-all _ _ _ _ (omega arith) (c .before .before .byte .ensures) (c .before .loop .inv .1)
 
-pub operand-twice-spec : {M : Type 1} → statement M
-operand-twice-spec =
+pub noted-all-spec : {M : Type 1} → statement M
+noted-all-spec =
     tie.close
     (tie.spec
     Inv-loop

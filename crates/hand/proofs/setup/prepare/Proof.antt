@@ -1,0 +1,65 @@
+-- `hand::setup::prepare` meets its contract. The loop's invariant: the first e entries are prepared.
+use borrow.Author.Needs.{needs}
+use Prim.Native.Nat.{_≤_, _-_}
+use native.Mathlib.Omega.{arith}
+use mathlib.Core.Path.{ap, _∙_}
+use Rattle.hand.specs.Setup.{Prepared, entryOf}
+use Rattle.hand.proofs.EntryLaws.{prepared-start, prepared-more, prepared-end, prepared-short}
+use Rattle.hand.proofs.setup.prepare.Statement.{statement}
+use Rattle.hand.proofs.setup.prepare.Tie as tie
+
+abbrev Inv-loop : tie.InvT-loop
+Inv-loop image table m side entries₀ e₀ entries e = (e ≤ m) × Prepared image table e side entries₀ entries
+
+abbrev μ-loop : tie.MeasureT-loop
+μ-loop image table m side entries₀ e₀ entries e = m - e
+
+returns : tie.Need-returns Inv-loop μ-loop
+returns c = prepared-short _ _ _ _ _ (c .if1 .taken)
+
+loop-holds : tie.Need-loop-holds Inv-loop μ-loop
+loop-holds c = (search needs, prepared-start _ _ _ _ (c .if1 .left))
+
+entry-requires : tie.Need-entry-requires Inv-loop μ-loop
+entry-requires c κs = search needs
+
+made-requires : tie.Need-made-requires Inv-loop μ-loop
+made-requires c κs = search needs
+
+place-requires : tie.Need-place-requires Inv-loop μ-loop
+place-requires c κs = (omega (arith, c .before .before .before .before .before .if1 .left, c .before .before .before .before .loop .inv .1 .size), c .made .ensures .small)
+
+add-e : tie.Need-add-e Inv-loop μ-loop
+add-e c = search needs
+
+loop-less : tie.Need-loop-less Inv-loop μ-loop
+loop-less c = search needs
+
+loop-again : tie.Need-loop-again Inv-loop μ-loop
+loop-again c =
+    let args = c .before .before .before .before .before .before .before .before .before .before .before .before .args in
+    let is = c .before .before .before .made .ensures .is ∙ ap (entryOf (args .image .now) (args .side)) (c .before .before .before .before .entry .ensures) in
+    (search needs, prepared-more (c .before .before .before .before .before .before .before .before .if1 .left) (c .before .before .before .before .before .before .before .loop .inv .1) is (c .before .before .place .ensures))
+
+same-length : tie.Need-same-length Inv-loop μ-loop
+same-length c = c .before .loop .inv .1 .size
+
+returns-2 : tie.Need-returns-2 Inv-loop μ-loop
+returns-2 c = prepared-end (c .before .loop .inv .0) (c .loop-test .left) (c .before .loop .inv .1)
+
+pub prepare-spec : {M : Type 1} → statement M
+prepare-spec =
+    tie.close
+    (tie.spec
+    Inv-loop
+    μ-loop
+    returns
+    loop-holds
+    entry-requires
+    made-requires
+    place-requires
+    add-e
+    loop-less
+    loop-again
+    same-length
+    returns-2)
