@@ -3,6 +3,8 @@
 # make build    the static libraries, the C programs and the independent program
 # make picture  draws the example's graph with its dead ends marked; IMAGE=FILE draws another
 # make bench    our libraries beside two versions in Rust; bench/stack measures the stack
+#
+# Each makes again what is older than its sources.
 
 QUESTION = examples/can-fire.bin
 IMAGE = examples/sequence.image
@@ -10,7 +12,7 @@ IMAGE = examples/sequence.image
 .PHONY: run test build picture bench
 
 run:
-	@rt check zseq > /dev/null 2>&1 || rt check zseq
+	@host/build zseq
 	@host/run target/bin/zseq < $(QUESTION)
 
 test:
@@ -20,7 +22,7 @@ build:
 	@host/build
 
 picture:
-	@test -x build/picture || host/build
+	@host/build deadends
 	@host/run build/picture $(IMAGE) > build/picture.dot
 	@if command -v dot > /dev/null; then dot -Tpng build/picture.dot -o build/picture.png && echo build/picture.png; \
 	else echo "build/picture.dot is written; to draw it, install Debian's graphviz: apt-get install graphviz"; fi

@@ -34,13 +34,6 @@ const char *const version_names[VERSIONS] = {"ours", "idiomatic", "fastest"};
 
 const char *const service_names[SERVICES] = {"", "verdict", "check", "write", "dead ends"};
 
-void fail(const char *what)
-{
-    fflush(stdout);
-    fprintf(stderr, "bench: %s\n", what);
-    exit(2);
-}
-
 struct answer call(int version, const struct piece *p, uint8_t *buffer)
 {
     static VERDICT_OF((*const verdicts[VERSIONS])) = {zseq_verdict, idiomatic_verdict, fastest_verdict};
@@ -80,56 +73,16 @@ static int is_linked(int service)
     }
 }
 
-static struct bytes whole_file(const char *name)
-{
-    FILE *f = fopen(name, "rb");
-    long size;
-    uint8_t *at;
-    if (f == NULL || fseek(f, 0, SEEK_END) != 0 || (size = ftell(f)) < 0 || fseek(f, 0, SEEK_SET) != 0)
-        fail("cannot read the work");
-    at = malloc((size_t)size + 1);
-    if (at == NULL || fread(at, 1, (size_t)size, f) != (size_t)size)
-        fail("cannot read the work");
-    fclose(f);
-    return (struct bytes){at, (size_t)size};
-}
-
-static struct bytes taken(struct bytes *from, size_t len)
-{
-    struct bytes front = {from->at, len};
-    if (from->len < len)
-        fail("the work is cut short");
-    from->at += len;
-    from->len -= len;
-    return front;
-}
-
-/* A big-endian number. */
-static uint64_t number(struct bytes *from, size_t len)
-{
-    struct bytes digits = taken(from, len);
-    uint64_t n = 0;
-    size_t i;
-    for (i = 0; i < len; i++)
-        n = n << 8 | digits.at[i];
-    return n;
-}
-
-static struct bytes blob(struct bytes *from)
-{
-    return taken(from, number(from, 4));
-}
-
 static struct piece read_piece(struct bytes *from, int service)
 {
     struct piece p = {.service = service};
-    p.goal = number(from, 8);
-    p.start = number(from, 8);
-    p.room = number(from, 8);
-    p.name = blob(from);
-    p.image = blob(from);
-    p.table = blob(from);
-    p.certificate = blob(from);
+    p.goal = take_number(from, 8);
+    p.start = take_number(from, 8);
+    p.room = take_number(from, 8);
+    p.name = take_counted(from);
+    p.image = take_counted(from);
+    p.table = take_counted(from);
+    p.certificate = take_counted(from);
     return p;
 }
 
@@ -144,13 +97,13 @@ struct places {
 /* A series, with the pieces that are left out taken away. */
 static struct series read_series(struct bytes *from, const struct places *places)
 {
-    struct series s = {.name = blob(from)};
-    size_t i, count = number(from, 4);
+    struct series s = {.name = take_counted(from)};
+    size_t i, count = take_number(from, 4);
     s.pieces = calloc(count + 1, sizeof *s.pieces);
     if (s.pieces == NULL)
         fail("no memory");
     for (i = 0; i < count; i++) {
-        size_t piece = number(from, 4);
+        size_t piece = take_number(from, 4);
         if (piece >= places->count)
             fail("a series names a piece that is not there");
         if (places->at[piece] != LEFT_OUT)
@@ -175,7 +128,7 @@ struct work read_work(const char *name)
     if (w.pieces == NULL || w.series == NULL)
         fail("no memory");
     while (from.len > 0) {
-        int service = (int)number(&from, 1);
+        int service = (int)take_number(&from, 1);
         if (service >= SERVICES || places.count == 1024 || w.series_count == 1024)
             fail("the work is not of its form");
         if (service == 0) {

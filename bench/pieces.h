@@ -4,16 +4,10 @@
 #ifndef PIECES_H
 #define PIECES_H
 
-#include <stddef.h>
-#include <stdint.h>
+#include "../host/bytes.h"
 
 enum { VERDICT = 1, CHECK, WRITE, DEAD_ENDS, SERVICES };
 enum { OURS, IDIOMATIC, FASTEST, VERSIONS };
-
-struct bytes {
-    const uint8_t *at;
-    size_t len;
-};
 
 struct piece {
     int service;
@@ -41,9 +35,6 @@ struct answer {
 };
 
 extern const char *const version_names[VERSIONS], *const service_names[SERVICES];
-
-/* Ends the program with status 2 and says why. */
-void fail(const char *what);
 
 /* Reads a file of pieces; ends the program where it is not one. Pieces of services of ours that are not linked are left out. */
 struct work read_work(const char *name);

@@ -10,34 +10,9 @@
 #include "../include/zseq.h"
 #include "cases.h"
 
-#include <stdlib.h>
 #include <string.h>
 
-enum { MOST_CERTIFICATE = 32768, HEAD = 12 };
-
-/* A big-endian number of so many bytes. */
-static uint64_t number(const uint8_t *at, size_t bytes)
-{
-    uint64_t n = 0;
-    while (bytes-- > 0)
-        n = n << 8 | *at++;
-    return n;
-}
-
-/* The bytes of the next answer: a result of 8 bytes, a length of 4, and as many bytes. */
-static struct bytes next_answer(struct bytes *left)
-{
-    struct bytes line;
-    if (left->len < HEAD)
-        fail("accepts: an answer is missing");
-    line.at = left->at + HEAD;
-    line.len = (size_t)number(left->at + 8, 4);
-    if (left->len - HEAD < line.len)
-        fail("accepts: an answer is cut short");
-    left->at = line.at + line.len;
-    left->len -= HEAD + line.len;
-    return line;
-}
+enum { MOST_CERTIFICATE = 32768 };
 
 static int nibble(uint8_t digit)
 {
@@ -71,40 +46,31 @@ static int begins(struct bytes line, const char *word)
 /* Whether the checker accepts what a line shows, for its side. The input is framed, or there would be no certificate. */
 static int accepted(struct bytes input, struct bytes line, int side)
 {
-    size_t image = (size_t)number(input.at, 2), table = (size_t)number(input.at + 2 + image, 2);
-    const uint8_t *last = input.at + 4 + image + table;
+    struct bytes image = take(&input, (size_t)take_number(&input, 2)), table = take(&input, (size_t)take_number(&input, 2));
     struct bytes certificate = certificate_of(line, side == 0 ? 4 : 3);
-    return zseq_check(input.at + 2, image, input.at + 4 + image, table, certificate.at, certificate.len, last[0], last[1]) == ZSEQ_YES + (uint64_t)side;
+    uint64_t goal = take_number(&input, 1), start = take_number(&input, 1);
+    return zseq_check(image.at, image.len, table.at, table.len, certificate.at, certificate.len, goal, start) == ZSEQ_YES + (uint64_t)side;
 }
 
-static struct bytes read_all(const char *name)
+/* The bytes of the next answer. Of its result, 8 bytes, nothing is said here. */
+static struct bytes next_line(struct bytes *answers)
 {
-    FILE *file = fopen(name, "rb");
-    size_t room = 1 << 20, len = 0, got;
-    uint8_t *at = malloc(room);
-    if (file == NULL || at == NULL)
-        fail("accepts: cannot read the answers");
-    while ((got = fread(at + len, 1, room - len, file)) > 0) {
-        len += got;
-        if (len == room && (at = realloc(at, room *= 2)) == NULL)
-            fail("accepts: no memory");
-    }
-    fclose(file);
-    return (struct bytes){at, len};
+    take(answers, 8);
+    return take_counted(answers);
 }
 
 int main(int argc, char **argv)
 {
     struct files files;
     struct asked asked;
-    struct bytes left;
+    struct bytes answers;
     size_t sides[2] = {0, 0};
     if (argc != 3)
         fail("usage: accepts CASES ANSWERS");
-    left = read_all(argv[2]);
+    answers = whole_file(argv[2]);
     files = open_files(argv[1], "/dev/null");
     while (next_case(&files, PROGRAM, &asked)) {
-        struct bytes line = next_answer(&left);
+        struct bytes line = next_line(&answers);
         int side = begins(line, "yes ") ? 0 : begins(line, "no ") ? 1 : -1;
         if (side < 0)
             continue;

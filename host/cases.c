@@ -1,59 +1,12 @@
 /* See cases.h. */
 #include "cases.h"
 
-#include <stdlib.h>
-
-void fail(const char *what)
-{
-    fprintf(stderr, "%s\n", what);
-    exit(2);
-}
-
-static struct bytes whole_file(const char *name)
-{
-    FILE *f = fopen(name, "rb");
-    long size;
-    uint8_t *bytes;
-    if (f == NULL || fseek(f, 0, SEEK_END) != 0 || (size = ftell(f)) < 0 || fseek(f, 0, SEEK_SET) != 0)
-        fail("cannot read the cases");
-    bytes = malloc((size_t)size + 1);
-    if (bytes == NULL || fread(bytes, 1, (size_t)size, f) != (size_t)size)
-        fail("cannot read the cases");
-    fclose(f);
-    return (struct bytes){bytes, (size_t)size};
-}
-
 struct files open_files(const char *cases, const char *answers)
 {
     struct files files = {whole_file(cases), 0, fopen(answers, "wb")};
     if (files.answers == NULL)
         fail("cannot write the answers");
     return files;
-}
-
-static struct bytes take(struct bytes *left, size_t len)
-{
-    struct bytes front = {left->at, len};
-    if (left->len < len)
-        fail("a case is cut short");
-    left->at += len;
-    left->len -= len;
-    return front;
-}
-
-static uint64_t take_number(struct bytes *left, size_t width)
-{
-    struct bytes from = take(left, width);
-    uint64_t number = 0;
-    size_t i;
-    for (i = 0; i < width; i++)
-        number = number << 8 | from.at[i];
-    return number;
-}
-
-static struct bytes take_counted(struct bytes *left)
-{
-    return take(left, (size_t)take_number(left, 4));
 }
 
 int next_case(struct files *files, uint64_t service, struct asked *asked)

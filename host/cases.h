@@ -6,17 +6,12 @@
 #ifndef CASES_H
 #define CASES_H
 
-#include <stddef.h>
-#include <stdint.h>
+#include "bytes.h"
+
 #include <stdio.h>
 
 /* The numbers of the services in a file of cases. */
 enum { VERDICT = 1, CHECK = 2, WRITE = 3, DEAD_ENDS = 4, PROGRAM = 5 };
-
-struct bytes {
-    const uint8_t *at;
-    size_t len;
-};
 
 /* One case: what a service is asked. */
 struct asked {
@@ -36,8 +31,6 @@ struct files {
     size_t taken;
     FILE *answers;
 };
-
-_Noreturn void fail(const char *what);
 
 struct files open_files(const char *cases, const char *answers);
 

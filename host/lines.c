@@ -1,9 +1,9 @@
 /*
  * Answers a file of cases for the program by running it: lines CASES ANSWERS PROGRAM ARGS..
  *
- * Each case's input is the program's standard input. Its standard output is the answer's bytes, and its exit status the result. Exit
- * status 0 when every case was answered, 1 when the program was ended by a signal, and 2 when a file cannot be read or written, is not of
- * its form, or the program cannot be run.
+ * Each case's input is the program's standard input. Its standard output is the answer's bytes, and its exit status the result. A run that
+ * takes too long is ended by a signal. Exit status 0 when every case was answered, 1 when the program was ended by a signal, and 2 when a
+ * file cannot be read or written, is not of its form, or the program cannot be run.
  */
 #include "cases.h"
 
@@ -13,8 +13,8 @@
 #include <sys/wait.h>
 #include <unistd.h>
 
-/* What a pipe holds: an input is put into it whole before anything is read back. A line has fewer bytes. */
-enum { MOST_INPUT = 65536, MOST_LINE = 1 << 20 };
+/* What a pipe holds: an input is put into it whole before anything is read back. A line has fewer bytes. A run takes fewer seconds. */
+enum { MOST_INPUT = 65536, MOST_LINE = 1 << 20, PATIENCE = 120 };
 
 struct ends {
     int read, write;
@@ -45,6 +45,7 @@ static pid_t start(char **program, struct ends input, struct ends output)
         if (dup2(input.read, 0) == 0 && dup2(output.write, 1) == 1) {
             close_both(input);
             close_both(output);
+            alarm(PATIENCE);
             execvp(program[0], program);
         }
         _exit(127);

@@ -54,27 +54,23 @@ fn put_counted(out: &mut Vec<u8>, part: &[u8]) {
 }
 
 pub fn read_cases(bytes: &[u8]) -> Result<Vec<Case>, String> {
-    let mut left = bytes;
-    let mut cases = Vec::new();
-    while !left.is_empty() {
-        match take_case(&mut left) {
-            Some(case) => cases.push(case),
-            None => return Err(format!("the file of cases breaks off in case {}", cases.len())),
-        }
-    }
-    Ok(cases)
+    read_all(bytes, "case", take_case)
 }
 
 pub fn read_answers(bytes: &[u8]) -> Result<Vec<Answer>, String> {
+    read_all(bytes, "answer", take_answer)
+}
+
+fn read_all<T>(bytes: &[u8], what: &str, take_one: fn(&mut &[u8]) -> Option<T>) -> Result<Vec<T>, String> {
     let mut left = bytes;
-    let mut answers = Vec::new();
+    let mut list = Vec::new();
     while !left.is_empty() {
-        match take_answer(&mut left) {
-            Some(answer) => answers.push(answer),
-            None => return Err(format!("the file of answers breaks off in answer {}", answers.len())),
+        match take_one(&mut left) {
+            Some(one) => list.push(one),
+            None => return Err(format!("the file of {what}s breaks off in {what} {}", list.len())),
         }
     }
-    Ok(answers)
+    Ok(list)
 }
 
 fn take_case(left: &mut &[u8]) -> Option<Case> {

@@ -26,13 +26,17 @@ impl Coverage {
     /// What did not come up, or not often enough. The refusals that a kind is about come up 200 times in 50,000 cases.
     pub fn missing(&self, kind: Kind, cases: u64) -> Vec<String> {
         let often = (200 * cases / 50_000).clamp(1, 200);
-        let wanted = once(kind).into_iter().map(|what| (what, 1));
-        let wanted = wanted.chain(many_times(kind).into_iter().map(|what| (what, often)));
-        wanted
+        let once = once(kind).into_iter().map(|what| (what, 1));
+        once.chain(many_times(kind).into_iter().map(|what| (what, often)))
             .filter(|(what, least)| self.count(what) < *least)
             .map(|(what, least)| format!("{what}: {} times, wanted {least}", self.count(&what)))
             .collect()
     }
+}
+
+/// Everything that has to come up for a kind.
+pub fn wanted(kind: Kind) -> Vec<String> {
+    [once(kind), many_times(kind)].concat()
 }
 
 fn refusals(numbers: &[u64]) -> Vec<String> {
@@ -58,6 +62,19 @@ fn many_times(kind: Kind) -> Vec<String> {
     list
 }
 
+/// Each kind of goal, with the verdicts that it can have.
+fn goals() -> Vec<String> {
+    let both = ["P", "not P", "and", "or", "AX", "EX", "AF", "EG", "AR", "EU"];
+    let mut list = vec!["goal true yes".to_string(), "goal false no".to_string()];
+    list.extend(both.iter().flat_map(|name| ["yes", "no"].map(|word| format!("goal {name} {word}"))));
+    list
+}
+
+/// Each of the seventeen codes.
+fn codes(what: &str) -> Vec<String> {
+    (0..17).map(|code| format!("{what} with code {code:02}")).collect()
+}
+
 fn once(kind: Kind) -> Vec<String> {
     let names: &[&str] = match kind {
         Kind::Verdict => &[
@@ -71,53 +88,51 @@ fn once(kind: Kind) -> Vec<String> {
             "p = 16",
             "m = 1",
             "m = 64",
+            "atom of arity 1",
+            "atom of arity 2",
+            "rebound variable",
+            "stage term in an atom",
+            "stage term of a modality",
+            "paths agree",
         ],
-        Kind::Check => &["accepted, ours", "accepted, not ours"],
-        Kind::Write => &["written", "room 0", "room one short", "room exact", "room one more", "room to spare"],
+        Kind::Check => &["accepted, ours", "accepted, not ours", "paths agree"],
+        Kind::Write => &[
+            "answer yes",
+            "answer no",
+            "room 0",
+            "room far too short",
+            "room one short",
+            "room exact",
+            "room one more",
+            "room to spare",
+            "length above 32768",
+            "length past every room",
+        ],
         Kind::Dead => &["dead ends 0", "dead ends 1", "dead ends 2 to 63", "dead ends 64", "n = 1", "n = 64"],
-        Kind::Program => &["input of 16384 bytes", "input of 16385 bytes", "length 32764 to 32768"],
+        Kind::Program => &[
+            "answer yes",
+            "answer no",
+            "input of 0 bytes, without a length",
+            "input without a length",
+            "input with half a length",
+            "input short of a part",
+            "input short of goal or start",
+            "input with a byte too many",
+            "input of 16384 bytes, of its shape",
+            "input of 16385 bytes, of its shape",
+            "length 32764 to 32768",
+        ],
         Kind::Read => &["readable image", "readable image and table", "n = 1", "n = 64", "p = 0", "p = 16"],
     };
     let mut list: Vec<String> = names.iter().map(|name| name.to_string()).collect();
     let to_13: Vec<u64> = (1..=13).collect();
-    let more: &[&str] = match kind {
-        Kind::Verdict => {
-            list.extend(refusals(&to_13));
-            list.extend(["true yes", "false no"].iter().map(|what| format!("goal {what}")));
-            for name in ["P", "not P", "and", "or", "AX", "EX", "AF", "EG", "AR", "EU"] {
-                list.push(format!("goal {name} yes"));
-                list.push(format!("goal {name} no"));
-            }
-            &[
-                "atom of arity 1",
-                "atom of arity 2",
-                "rebound variable",
-                "stage term in an atom",
-                "stage term of a modality",
-                "paths agree",
-            ]
-        }
-        Kind::Check => {
-            list.extend(refusals(&to_13));
-            &["paths agree"]
-        }
-        Kind::Write => {
-            &["room far too short", "answer yes", "answer no", "length above 32768", "length past every room"]
-        }
-        Kind::Dead => {
-            list.extend(refusals(&[1, 2, 3, 4, 5, 15]));
-            &[]
-        }
-        Kind::Program => {
-            list.extend(refusals(&to_13));
-            list.extend(refusals(&[14]));
-            &["answer yes", "answer no"]
-        }
-        Kind::Read => {
-            list.extend(refusals(&to_13[..10]));
-            &[]
-        }
-    };
-    list.extend(more.iter().map(|name| name.to_string()));
+    list.extend(match kind {
+        Kind::Verdict => [goals(), refusals(&to_13)].concat(),
+        Kind::Check => [goals(), codes("accepted"), refusals(&to_13)].concat(),
+        Kind::Write => [goals(), codes("written"), refusals(&to_13)].concat(),
+        Kind::Dead => refusals(&[1, 2, 3, 4, 5, 15]),
+        Kind::Program => [refusals(&to_13), refusals(&[14])].concat(),
+        Kind::Read => refusals(&to_13[..10]),
+    });
     list
 }

@@ -11,6 +11,7 @@ use crate::make::MOST_ROOM;
 use crate::rules;
 use crate::services;
 use crate::writer;
+use std::collections::BTreeSet;
 
 const NAMES: [&str; 12] = ["true", "false", "P", "not P", "and", "or", "AX", "EX", "AF", "EG", "AR", "EU"];
 
@@ -46,8 +47,10 @@ pub fn observe(seen: &mut Coverage, case: &Case, answer: &Answer) -> Result<(), 
 
 /// The program's line: the words of it, and the case inside where it was answered.
 fn line(seen: &mut Coverage, case: &Case, answer: &Answer) -> Result<(), String> {
-    if [frame::MOST_INPUT, frame::MOST_INPUT + 1].contains(&case.image.len()) {
-        seen.note(format!("input of {} bytes", case.image.len()));
+    let (length, shape) = (case.image.len(), shape(&case.image));
+    seen.note(format!("input {shape}"));
+    if [0, frame::MOST_INPUT, frame::MOST_INPUT + 1].contains(&length) {
+        seen.note(format!("input of {length} bytes, {shape}"));
     }
     let text = String::from_utf8_lossy(&answer.bytes).into_owned();
     let words: Vec<&str> = text.split_whitespace().collect();
@@ -69,6 +72,28 @@ fn line(seen: &mut Coverage, case: &Case, answer: &Answer) -> Result<(), String>
     }
 }
 
+/// How far an input of the program is of its shape, whatever its length in all.
+fn shape(input: &[u8]) -> &'static str {
+    let mut rest = input;
+    for _ in 0..2 {
+        let length = match rest {
+            [] => return "without a length",
+            [_] => return "with half a length",
+            [high, low, ..] => 2 + usize::from(*high) * 256 + usize::from(*low),
+        };
+        if rest.len() < length {
+            return "short of a part";
+        }
+        rest = &rest[length..];
+    }
+    match rest.len() {
+        0 | 1 => "short of goal or start",
+        2 => "of its shape",
+        3 => "with a byte too many",
+        _ => "with bytes too many",
+    }
+}
+
 /// A verdict, an accepted certificate or a written one.
 fn answered(seen: &mut Coverage, case: &Case, answer: &Answer) -> Result<(), String> {
     let (graph, formula) = services::read(&case.image, &case.table, case.goal, case.start)
@@ -85,6 +110,7 @@ fn answered(seen: &mut Coverage, case: &Case, answer: &Answer) -> Result<(), Str
     }
     if case.service == cases::CHECK {
         seen.note(format!("accepted side {side}"));
+        codes(seen, "accepted", &graph, &formula, case.start, &case.certificate);
         let room = case.certificate.len() as u64;
         let ours = writer::write(&graph, &formula, case.goal, case.start, room);
         let same = ours.map_or(false, |(_, certificate)| certificate == case.certificate);
@@ -99,8 +125,17 @@ fn answered(seen: &mut Coverage, case: &Case, answer: &Answer) -> Result<(), Str
         if checked.map(u64::from) != Ok(side) {
             return Err("our certificate is not accepted".to_string());
         }
+        codes(seen, "written", &graph, &formula, case.start, &certificate);
     }
     Ok(())
+}
+
+/// The codes in an accepted certificate, each once.
+fn codes(seen: &mut Coverage, what: &str, graph: &Graph, formula: &Formula, start: u64, certificate: &[u8]) {
+    let proved = if certificate[5] == 0 { formula.clone() } else { formula.dual() };
+    let steps = rules::steps(graph, &proved, [start as usize, 0, 0, 0], certificate).unwrap_or_default();
+    let met: BTreeSet<u8> = steps.iter().map(|step| step.code).collect();
+    met.into_iter().for_each(|code| seen.note(format!("{what} with code {code:02}")));
 }
 
 /// The truth by tables, by the dual, and where it can be afforded by the paths themselves.

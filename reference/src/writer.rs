@@ -31,6 +31,13 @@ struct Writer<'g> {
     room: u64,
 }
 
+/// The modality in hand, its truth at every stage, and what the variables outside it stand at.
+struct InHand<'m> {
+    modal: &'m Modal,
+    sheet: &'m Sheet,
+    env: &'m Env,
+}
+
 impl<'g> Writer<'g> {
     fn put(&mut self, byte: u8) -> Result<(), u64> {
         if self.out.len() as u64 >= self.room {
@@ -58,114 +65,90 @@ impl<'g> Writer<'g> {
             }
             Formula::Modal(modal) => {
                 let sheet = self.tables.sheet(modal, env);
-                let stage = modal.at.value(env);
-                let mut walk = Vec::new();
-                self.modal(modal, &sheet, env, stage, &mut walk)
+                self.modal(&InHand { modal, sheet: &sheet, env }, modal.at.value(env), &mut Vec::new())
             }
         }
     }
 
-    fn modal(
-        &mut self,
-        modal: &Modal,
-        sheet: &Sheet,
-        env: &Env,
-        stage: usize,
-        walk: &mut Vec<usize>,
-    ) -> Result<(), u64> {
-        let graph = self.graph;
-        let next = &graph.next[stage];
-        match modal.mode {
+    fn modal(&mut self, it: &InHand, stage: usize, walk: &mut Vec<usize>) -> Result<(), u64> {
+        let next = &self.graph.next[stage];
+        let sheet = it.sheet;
+        match it.modal.mode {
             Mode::Ax => {
                 self.put(6)?;
-                next.iter().try_for_each(|&c| self.a_at(modal, env, c))
+                next.iter().try_for_each(|&c| self.a_at(it, c))
             }
             Mode::Ex => {
                 let lowest = choose(next, |c| sheet.a[c]);
                 self.put(7)?;
                 self.put(lowest as u8)?;
-                self.a_at(modal, env, lowest)
+                self.a_at(it, lowest)
             }
             Mode::Af if sheet.a[stage] => {
                 self.put(8)?;
-                self.a_at(modal, env, stage)
+                self.a_at(it, stage)
             }
             Mode::Af => {
                 self.put(9)?;
-                self.everywhere(modal, sheet, env, stage, walk)
+                self.everywhere(it, stage, walk)
             }
             Mode::Eg if walk.contains(&stage) => self.put(11),
             Mode::Eg => {
                 let lowest = choose(next, |c| sheet.truth[c]);
                 self.put(10)?;
-                self.one_on(modal, sheet, env, (stage, lowest), walk)
+                self.one_on(it, stage, lowest, walk)
             }
             Mode::Ar if walk.contains(&stage) => self.put(14),
             Mode::Ar if sheet.a[stage] => {
                 self.put(12)?;
-                self.a_at(modal, env, stage)?;
-                self.b_at(modal, env, stage)
+                self.a_at(it, stage)?;
+                self.b_at(it, stage)
             }
             Mode::Ar => {
                 self.put(13)?;
-                self.b_at(modal, env, stage)?;
-                self.everywhere(modal, sheet, env, stage, walk)
+                self.b_at(it, stage)?;
+                self.everywhere(it, stage, walk)
             }
             Mode::Eu if sheet.b[stage] => {
                 self.put(15)?;
-                self.b_at(modal, env, stage)
+                self.b_at(it, stage)
             }
             Mode::Eu => {
                 let fewest = next.iter().filter_map(|&c| sheet.steps[c]).min();
                 let nearest = choose(next, |c| sheet.steps[c] == fewest);
                 self.put(16)?;
-                self.one_on(modal, sheet, env, (stage, nearest), walk)
+                self.one_on(it, stage, nearest, walk)
             }
         }
     }
 
-    fn a_at(&mut self, modal: &Modal, env: &Env, stage: usize) -> Result<(), u64> {
-        self.formula(&modal.a, &bind(env, modal.x, stage))
+    fn a_at(&mut self, it: &InHand, stage: usize) -> Result<(), u64> {
+        self.formula(&it.modal.a, &bind(it.env, it.modal.x, stage))
     }
 
-    fn b_at(&mut self, modal: &Modal, env: &Env, stage: usize) -> Result<(), u64> {
-        match &modal.b {
-            Some(b) => self.formula(b, &bind(env, modal.y, stage)),
+    fn b_at(&mut self, it: &InHand, stage: usize) -> Result<(), u64> {
+        match &it.modal.b {
+            Some(b) => self.formula(b, &bind(it.env, it.modal.y, stage)),
             None => unreachable!("AR and EU have a second entry"),
         }
     }
 
     /// The modality again at each successor, the stage being on the walk meanwhile.
-    fn everywhere(
-        &mut self,
-        modal: &Modal,
-        sheet: &Sheet,
-        env: &Env,
-        stage: usize,
-        walk: &mut Vec<usize>,
-    ) -> Result<(), u64> {
-        let graph = self.graph;
+    fn everywhere(&mut self, it: &InHand, stage: usize, walk: &mut Vec<usize>) -> Result<(), u64> {
         walk.push(stage);
-        for &successor in &graph.next[stage] {
-            self.modal(modal, sheet, env, successor, walk)?;
+        for &successor in &self.graph.next[stage] {
+            self.modal(it, successor, walk)?;
         }
         walk.pop();
         Ok(())
     }
 
     /// The chosen byte, a here, and the modality again at the chosen successor.
-    fn one_on(
-        &mut self,
-        modal: &Modal,
-        sheet: &Sheet,
-        env: &Env,
-        (stage, chosen): (usize, usize),
-        walk: &mut Vec<usize>,
-    ) -> Result<(), u64> {
+    fn one_on(&mut self, it: &InHand, stage: usize, chosen: usize, walk: &mut Vec<usize>) -> Result<(), u64> {
         self.put(chosen as u8)?;
-        self.a_at(modal, env, stage)?;
+        self.a_at(it, stage)?;
         walk.push(stage);
-        self.modal(modal, sheet, env, chosen, walk)?;
+        self.modal(it, chosen, walk)?;
         walk.pop();
         Ok(())
     }

@@ -1,6 +1,7 @@
 //! The making of cases and the judging of answers.
 
 use reference::cases::{read_answers, read_cases, Answer, Case};
+use reference::coverage::{wanted, Coverage};
 use reference::judge::{judge, judge_any};
 use reference::make::{make, Kind, KINDS};
 use reference::services;
@@ -62,6 +63,23 @@ fn too_few_cases_do_not_pass() {
     let cases = make(Kind::Verdict, 1, 50);
     let answers: Vec<Answer> = cases.iter().map(services::answer).collect();
     assert_eq!(judge(Kind::Verdict, "verdict", &stored(&cases), &stored_answers(&answers)), Ok(false));
+}
+
+/// Whatever never came up is missed, and nothing else is.
+#[test]
+fn each_thing_that_has_to_come_up_is_missed() {
+    for (name, kind) in KINDS {
+        let everything = wanted(kind);
+        for left_out in &everything {
+            let mut seen = Coverage::default();
+            everything.iter().filter(|what| *what != left_out).for_each(|what| seen.note(what.clone()));
+            assert_eq!(seen.missing(kind, 1), [format!("{left_out}: 0 times, wanted 1")], "{name}");
+        }
+    }
+    let codes = wanted(Kind::Check).into_iter().filter(|what| what.starts_with("accepted with code")).count();
+    let refusals =
+        wanted(Kind::Check).into_iter().filter(|what| what.starts_with("refusal") && !what.contains(':')).count();
+    assert_eq!((codes, refusals), (17, 19));
 }
 
 /// Cases of any content are judged: a few of them will do, and a wrong answer among them is found.
