@@ -1,6 +1,7 @@
 -- What a check answers, from what its parts say.
 --
---     small-setup                      what the readers of steps go by holds of a setup that is not refused
+--     small-setup, setup-lent, goal-hand
+--                                      what the readers of steps go by holds of a setup that is not refused
 --     asked-read, asked-refused, own-question, by-given
 --                                      the question, in each arm of its reader's answer, and by its own goal and start
 --     reading-is, missing, wrong, fails, remain, whole
@@ -15,14 +16,14 @@ use mathlib.Core.Path.{_≡_, refl, sym, ap, ap₂, subst, subst₂, _∙_}
 use mathlib.Core.Bool.{Bool, true, false, not, _&&_}
 use mathlib.Core.List.{List, [], _∷_}
 use mathlib.Core.Logic.{inl, inr, ⊎-elim}
-use lib.Dec.{T, ltb}
-use lib.ListN.{length, List·getD-eq-default}
+use lib.Dec.{T, eqb, ltb}
+use lib.ListN.{length, replicate, length-replicate, List·getD-eq-default}
 use Rattle.model.specs.Formula.{Env, pick}
 use Rattle.sets.specs.Number.{width}
 use Rattle.sets.proofs.LawsMember.{side?}
 use Rattle.format.specs.Bytes.{byteAt}
 use Rattle.format.specs.Refusal.{number, Condition, Given, Clear}
-use Rattle.format.specs.Image.{graphOf}
+use Rattle.format.specs.Image.{stagesOf, setsIn, graphOf}
 use Rattle.format.specs.Table.{entriesOf, recordAt, kindOf, sortOf, treeOf, RuledAs}
 use Rattle.format.specs.Question.{setupConditions, questionConditions}
 use Rattle.format.specs.Answers.{QuestionRead, QuestionAnswer}
@@ -35,12 +36,16 @@ use Rattle.format.specs.declared.question.Question.{Question}
 use Rattle.format.specs.declared.question.Answer.{Answer as OfQuestion}
 use Rattle.format.specs.declared.question.Answer.the-variants as Qu
 use Rattle.format.proofs.RefusalLaws.{given-first, given-later, clear-both}
-use Rattle.format.proofs.ReadableLaws.{of-setup, of-image, of-table, sizes, entries, readable, ruled}
+use Rattle.format.proofs.Decision.{stable, length-fits?}
+use Rattle.format.proofs.ReadableLaws as ReadableLaws
+use Rattle.format.proofs.ReadableLaws.{of-setup, of-image, of-table, sizes, readable, ruled, goal-below, start-below}
 use Rattle.rules.specs.declared.Progress.{Progress}
 use Rattle.rules.proofs.Accepted.{ends-inside}
 use Rattle.hand.specs.Environment.{envOf}
 use Rattle.hand.specs.Side.{sided}
-use Rattle.checker.specs.Reading.{Small, readEntry}
+use Rattle.hand.specs.Setup.{Decoded, Prepared, entryBytes}
+use Rattle.hand.proofs.SetupLaws.{all-sets}
+use Rattle.checker.specs.Reading.{Small, Lent, InHand, readEntry}
 use Rattle.checker.specs.Header.{sideOf, headerConditions, HeaderFits, NamesQuestion}
 use Rattle.hand.specs.Environment.{started}
 use Rattle.checker.specs.Check.{reading, stepConditions, outerConditions, checkConditions, broke}
@@ -62,7 +67,7 @@ ruled-small S.NoSort image e r h = absurd h
 
 module _ (image table : List ℕ) (clear : Clear (setupConditions image table)) where
   total : length table ≡ 6 + 6 * entriesOf table
-  total = entries image table (of-table image table clear) .total
+  total = ReadableLaws.entries image table (of-table image table clear) .total
 
   past : (i : ℕ) → length table ≤ i → byteAt table i < 4
   past i h = omega (arith, List·getD-eq-default table 0 h)
@@ -81,6 +86,35 @@ module _ (image table : List ℕ) (clear : Clear (setupConditions image table)) 
     x = λ e. both-small e .0;
     y = λ e. both-small e .1;
   }
+
+-- Its sets decoded and its entries prepared are what the readers are lent.
+pub setup-lent : {image table sets entries : List ℕ} {side count m : ℕ} → Clear (setupConditions image table) → count ≡ setsIn image
+    → m ≡ entriesOf table → Decoded image count (replicate 1088 0) sets → Prepared image table m side (replicate entryBytes 0) entries
+    → Lent image table side sets entries
+setup-lent {image} {table} {m = m} clear count-is m-is d p =
+    let image-clear = of-image image table clear in
+    record {
+      small = small-setup image table clear;
+      some = sizes image image-clear .some;
+      all = all-sets {n = 1088} (sizes image image-clear) (stable (length-fits? image) (image-clear .1 .1 .0)) (omega arith) count-is d;
+      few = ReadableLaws.entries image table (of-table image table clear) .most;
+      entry = λ e h. p .entries e (omega arith)
+          (omega (arith, ReadableLaws.entries image table (of-table image table clear) .most)) (omega (arith, length-replicate {A = ℕ} entryBytes 0));
+      ruled = ruled image table clear;
+    }
+
+-- The goal is in hand, with variable 0 at the start and the others at stage 0.
+pub goal-hand : {image table sets entries : List ℕ} {goal start side : ℕ} → Clear (questionConditions image table goal start)
+    → Lent image table side sets entries → InHand image table side sets entries goal (envOf (record { slots = start ∷ 0 ∷ 0 ∷ 0 ∷ [] }))
+goal-hand {image} {table} {goal = goal} {start = start} clear lent = record {
+  lent = lent;
+  below = goal-below image table goal start clear;
+  inside = λ v. subst (λ (c : Env). c v < stagesOf image) (sym (start-env start)) (picked (eqb v 0));
+}
+  where
+    picked : (b : Bool) → pick b start 0 < stagesOf image
+    picked true = start-below image table goal start clear
+    picked false = omega (arith, lent .some)
 
 -- In each arm of the code's `match`: a question that was read, or the refusal that is given.
 module _ (image table : List ℕ) (goal start : ℕ) {a : OfQuestion} where

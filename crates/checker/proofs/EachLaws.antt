@@ -5,32 +5,29 @@
 --     turn-of              a turn, from what the contracts of `is_empty`, `lowest` and `rest` say
 --     each-start, each-stage, each-next, each-end
 --                          the loop over the successors of a stage of an image
---     on-grows, on-next    the same where a walk goes on with the stage added
+--     each-stops           a fault on the way is the loop's answer
 use Prim.Native.Nat.{ℕ, zero, suc, _-_, _^_, _≤_, _<_}
 use native.Mathlib.Omega.{arith}
 use mathlib.Core.Path.{_≡_, refl, sym, ap, ap₂, subst, _∙_, fun-ext}
 use mathlib.Core.Bool.{Bool, true, false, not}
 use mathlib.Core.List.{List}
-use mathlib.Core.Logic.{_↔_, _≢_}
-use lib.Bits.{bitAnd, bitOr}
+use mathlib.Core.Logic.{_↔_, _≢_, ⊎-elim}
+use lib.Bits.{bitAnd}
 use lib.Count.{ones, trailingZeros}
 use lib.Dec.{T}
 use Rattle.model.specs.Decides.{Decides, denied, granted}
-use Rattle.model.specs.Formula.{Env}
 use Rattle.sets.specs.Member.{Has, Empty}
-use Rattle.sets.specs.Number.{single, width}
-use Rattle.sets.proofs.LawsMember.{has-test, empty-zero}
+use Rattle.sets.specs.Number.{width}
+use Rattle.sets.proofs.LawsMember.{has-test, empty-zero, side?}
 use Rattle.sets.proofs.LawsLowest.{lowest-le, lowest-lt, lowest-has, has-rest, rest-small}
 use Rattle.sets.proofs.LawsWalk.{Turn}
 use Rattle.format.specs.Image.{stagesOf, member, graphOf}
-use Rattle.format.specs.declared.record.Record.{Record}
 use Rattle.rules.specs.Reading.{Reader, onward, visit, through}
 use Rattle.rules.specs.declared.Progress.{Progress}
 use Rattle.rules.proofs.Faults.{skipped}
 use Rattle.hand.specs.Hand.{SuccessorsOf}
-use Rattle.checker.specs.Reading.{Small, OffWalk, readAlong, readOn}
+use Rattle.checker.specs.Reading.{Small}
 use Rattle.checker.proofs.ReadingLaws.{nothing, in-turn}
-use Rattle.checker.proofs.WalkLaws.{grows, along-on, stage-room}
 
 -- Below n: the successors below `from` are read, and those from there on are left.
 pub record Turns (n : ℕ) (next : ℕ → Bool) (read : ℕ → Reader) (came : Progress) (left : ℕ) (here : Progress) : Type 0 where
@@ -110,6 +107,21 @@ module _ (n : ℕ) (next : ℕ → Bool) (inside : (t : ℕ) → T (next t) → 
       go t h true e = absurd (none t (g .rest t .1 (subst T (sym e) tt, h)))
       go t h false e = e
 
+  -- A fault stays, so where the reading has one the rest of the turns change nothing.
+  turns-stop : {left : ℕ} {here : Progress} → Turns n next read came left here → ((k : Reader) → onward here k ≡ here)
+      → here ≡ onward came (through n next read)
+  turns-stop {left} {here} g stays = up n (g .within)
+    where
+      upto : (j : ℕ) → g .from ≡ j → here ≡ onward came (through j next read)
+      upto j e = subst (λ (i : ℕ). here ≡ onward came (through i next read)) e (g .reads)
+
+      up : (j : ℕ) → g .from ≤ j → here ≡ onward came (through j next read)
+      up zero h = upto zero (omega arith)
+      up (suc j) h = ⊎-elim
+          (λ l. upto (suc j) (omega arith))
+          (λ l. in-turn came (through j next read) (visit (next j) (read j)) (up j l) (sym (stays (visit (next j) (read j)))))
+          (side? j (g .from))
+
 -- A turn, as the code's tests and calls tell it.
 pub turn-of : {left k left′ : ℕ} (e : Bool) → Decides e (Empty left) → not e ≡ true → k ≡ trailingZeros width left → left′ ≡ bitAnd left (left - 1)
     → Turn left k left′
@@ -138,21 +150,6 @@ module _ {image table : List ℕ} (small : Small image table) (s : ℕ) (read : 
       → here ≡ onward came (through (stagesOf image) (graphOf image .next s) read)
   each-end {left} g e d f = turns-end (stagesOf image) (graphOf image .next s) inside read came g (granted e (Empty left) d f)
 
--- ---- a walk that goes on at each of them
-
-module _ {image table : List ℕ} {e : ℕ} {r : Record} {set s : ℕ} (off : OffWalk image table e r set s) (fits : set < 2 ^ width)
-    {longer : ℕ} (is : longer ≡ bitOr set (single s)) where
-  -- There is a successor, so one stage more is on the walk.
-  pub on-grows : (t : ℕ) → T (graphOf image .next s t) → (ones longer ≡ suc (ones set)) × (ones set < width)
-  on-grows t h = grows fits (stage-room s t (off .entry .small) h) (off .off) is
-
-  -- What a turn reads along the longer walk is what the rules read further on.
-  pub on-next : (bytes : List ℕ) (side : ℕ) (env : Env) (came : Progress) {left k left′ : ℕ} {here p : Progress}
-      → Each (off .entry .small) s (readOn image table bytes side e env set s) came left here → Turn left k left′
-      → p ≡ onward here (readAlong image table bytes side e env longer k)
-      → Each (off .entry .small) s (readOn image table bytes side e env set s) came left′ p
-  on-next bytes side env came {k = k} {here = here} g turn p-is =
-      let small = off .entry .small in
-      let next = each-stage small s (readOn image table bytes side e env set s) came g turn .0 in
-      each-next small s (readOn image table bytes side e env set s) came g turn
-      (p-is ∙ ap (onward here) (along-on fits (stage-room s k small next) (off .off) is image table bytes side e env k))
+  pub each-stops : {left : ℕ} {here : Progress} → Each left here → ((k : Reader) → onward here k ≡ here)
+      → here ≡ onward came (through (stagesOf image) (graphOf image .next s) read)
+  each-stops g stays = turns-stop (stagesOf image) (graphOf image .next s) inside read came g stays

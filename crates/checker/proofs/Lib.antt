@@ -2,9 +2,14 @@
 -- marked cases (`Example`).
 pub mod ConditionLaws
 pub mod StepLaws
+pub mod ToldLaws
 pub mod ReadingLaws
 pub mod WalkLaws
 pub mod EachLaws
+pub mod StartLaws
+pub mod ArmLaws
+pub mod LeafLaws
+pub mod LoopLaws
 pub mod CheckLaws
 pub mod ByteLaws
 pub mod CertificateLaws

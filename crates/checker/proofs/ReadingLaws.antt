@@ -2,9 +2,7 @@
 -- reader's own.
 --
 --     goes-on, nothing, in-turn       a reading that came to a place goes on there; what reads nothing; two readings in turn
---     none-ends, none-missing, none-wrong
---                                     "false" on side 0, "true" on side 1
---     lower-operand, other-operand    an operand is the entry of its number, or counts as false
+--     lower-operand                   an operand is the entry of its number
 --     from-start                      an entry, from the start of its walk
 --     step-missing, step-wrong, step-fails, step-proves
 --                                     one step of a walk
@@ -15,8 +13,7 @@ use mathlib.Core.Bool.{Bool, true, false}
 use mathlib.Core.List.{List}
 use lib.Count.{ones}
 use borrow.Author.Tests.{ne-eqb}
-use Rattle.model.specs.Graph.{Graph}
-use Rattle.model.specs.Formula.{Formula, falsity, Env, value}
+use Rattle.model.specs.Formula.{Formula, Env, value}
 use Rattle.logic.specs.Rules.{Walk, empty, also}
 use Rattle.sets.specs.Member.{bit}
 use Rattle.sets.specs.Number.{width}
@@ -26,23 +23,17 @@ use Rattle.format.specs.Image.{graphOf}
 use Rattle.format.specs.Table.{kindOf, recordAt, termOf, nth, trees, treeOf}
 use Rattle.format.specs.declared.record.Record.{Record}
 use Rattle.format.specs.declared.record.Kind.{Kind}
-use Rattle.format.specs.declared.record.Kind.the-variants as K
-use Rattle.format.proofs.TreeLaws.{tree-at, tree-past}
-use Rattle.rules.specs.Kind as RK
-use Rattle.rules.specs.Table.{row}
+use Rattle.format.proofs.TreeLaws.{tree-at}
 use Rattle.rules.specs.Head.{headOf}
 use Rattle.rules.specs.Shape.{shape}
-use Rattle.rules.specs.Reading.{Reader, onward, headed, asked, parts, no-entry, readRule, readStep, readWalk, readFormula}
+use Rattle.rules.specs.Reading.{Reader, onward, headed, asked, readWalk, readFormula}
 use Rattle.rules.specs.declared.Rule.{Rule}
 use Rattle.rules.specs.declared.Head.{Head}
 use Rattle.rules.specs.declared.Progress.{Progress}
-use Rattle.rules.proofs.Heads.{head-begins, not-false}
-use Rattle.rules.proofs.StepLaws.{number-kind}
 use Rattle.hand.specs.Side.{sided, kindOn, numberOf}
 use Rattle.hand.specs.Hand.{startIn}
-use Rattle.checker.specs.Reading.{walkOf, allows, readNone, readEntry, readOperand, readAlong, readOn, readPremisesOf}
+use Rattle.checker.specs.Reading.{walkOf, allows, readEntry, readOperand, readAlong, readOn, readPremisesOf}
 use Rattle.hand.proofs.SideLaws.{sided-entry, start-side}
-use Rattle.checker.proofs.ConditionLaws.{for-true}
 use Rattle.checker.proofs.StepLaws.{M, rule-read, by-kind, by-rule, start-kind, proves}
 
 -- ---- readings in turn
@@ -68,69 +59,15 @@ after-both (Progress.Fails at) f g = refl
 pub in-turn : (came : Progress) {p q : Progress} (f g : Reader) → p ≡ onward came f → q ≡ onward p g → q ≡ onward came (λ at. onward (f at) g)
 in-turn came f g e h = h ∙ ap (λ (p : Progress). onward p g) e ∙ after-both came f g
 
--- ---- "false" on side 0, "true" on side 1
-
-module _ (bytes : List ℕ) (side : ℕ) {came : Progress} (at : ℕ) (came-is : came ≡ Progress.At at) {k : ℕ} (k-is : k ≡ numberOf (kindOn side K.False))
-    {h : Head} (h-is : h ≡ headOf bytes at k) where
-  by-head : {g : Head} → h ≡ g → headed g at (λ r next. Progress.At next) ≡ onward came (readNone bytes side)
-  unfolding readNone
-  by-head e =
-      ap (λ (g : Head). headed g at (λ r next. Progress.At next)) (sym e ∙ h-is ∙ ap (headOf bytes at) k-is) ∙ sym (goes-on (readNone bytes side) came-is)
-
-  pub none-ends : {r : Rule} {next : ℕ} → h ≡ Head.Step r next → Progress.At next ≡ onward came (readNone bytes side)
-  none-ends e = by-head e
-
-  pub none-missing : h ≡ Head.Missing → Progress.Missing ≡ onward came (readNone bytes side)
-  none-missing e = by-head e
-
-  pub none-wrong : h ≡ Head.Wrong → Progress.Wrong at ≡ onward came (readNone bytes side)
-  none-wrong e = by-head e
-
--- That is how falsity is read on a side, whatever the graph and the variables.
-module _ (room : ℕ) (G : Graph) (bytes : List ℕ) (env : Env) (at : ℕ) where
-  -- readers of a rule that agree where one is read
-  alike : (k : ℕ) (f g : Rule → Reader) → ((q : Rule) (next : ℕ) → headOf bytes at k ≡ Head.Step q next → f q next ≡ g q next)
-      → headed (headOf bytes at k) at f ≡ headed (headOf bytes at k) at g
-  alike k f g same = go (headOf bytes at k) refl
-    where
-      go : (h : Head) → headOf bytes at k ≡ h → headed h at f ≡ headed h at g
-      go (Head.Step q next) e = same q next e
-      go Head.Missing e = refl
-      go Head.Wrong e = refl
-
-  pub false-read : (side : ℕ) → readFormula room G bytes (sided side falsity) env at ≡ readNone bytes side at
-  unfolding readNone
-  false-read zero = alike 1 _ _ (λ q next e. absurd (not-false q (number-kind (row q .kind) _ (head-begins bytes at 1 e .1))))
-  false-read (suc n) = alike 0 rule _ (λ q next e. ap (λ (q : Rule). rule q next) (for-true q (head-begins bytes at 0 e .1)))
-    where
-      rule : Rule → Reader
-      rule =
-          readRule G true
-          (parts (no-entry room G bytes) (no-entry room G bytes)
-          (λ t. readStep G bytes RK.Kind.True true (no-entry room G bytes) (no-entry room G bytes) room (also empty 0) t))
-          empty 0 at
-
 -- ---- operands
 
 module _ (image table bytes : List ℕ) (side e o : ℕ) (env : Env) (came : Progress) where
-  -- An operand that has a lower number is the entry of its number,
+  -- An operand has a lower number, and is the entry of that number.
   pub lower-operand : {p : Progress} → o < e → p ≡ onward came (readEntry image table bytes side o env)
       → p ≡ onward came (readOperand image table bytes side e o env)
   unfolding readEntry readOperand
   lower-operand h p-is =
       p-is ∙ ap (λ (f : Formula). onward came (readFormula width (graphOf image) bytes (sided side f) env)) (sym (tree-at image table e o h))
-
-  -- and any other counts as false.
-  pub other-operand : {p : Progress} → e ≤ o → p ≡ onward came (readNone bytes side) → p ≡ onward came (readOperand image table bytes side e o env)
-  unfolding readOperand
-  other-operand h p-is =
-      p-is ∙ ap (onward came) (fun-ext (λ at. sym (false-read width (graphOf image) bytes env at side)))
-      ∙ ap (λ (f : Formula). onward came (readFormula width (graphOf image) bytes (sided side f) env)) (sym (tree-past image table e o h))
-
--- An operand is read in an environment that is the same.
-pub in-bound : (image table bytes : List ℕ) (side e o : ℕ) (came : Progress) {env env′ : Env} {p : Progress}
-    → p ≡ onward came (readOperand image table bytes side e o env) → env ≡ env′ → p ≡ onward came (readOperand image table bytes side e o env′)
-in-bound image table bytes side e o came p-is env-is = p-is ∙ ap (λ (c : Env). onward came (readOperand image table bytes side e o c)) env-is
 
 -- ---- one step of a walk
 

@@ -1,12 +1,7 @@
--- A walk that is held as a set: what it is with a stage added, and when a rule that goes on is allowed.
+-- A walk that is held as a set: what it is with a stage added.
 --
 --     grows              one stage more is on the walk, and there was room for it
 --     along-on           the walk with a stage added is read as the rules' longer walk
---     stage-room         there is room for a stage that has a successor
---     af-ready, ar-ready, eg-grows, eu-grows
---                        what an allowed rule that goes on says of the walk and of its stage
---     eg-proves, eu-proves
---                        the premises of the two rules that go on at one successor
 use Prim.Native.Nat.{ℕ, suc, _-_, _^_, _<_}
 use native.Mathlib.Omega.{arith}
 use mathlib.Core.Path.{_≡_, sym, ap, ap₂, subst, _∙_, fun-ext}
@@ -25,13 +20,9 @@ use Rattle.sets.proofs.LawsMember.{same?, has?, has-with, within-lt}
 use Rattle.sets.proofs.LawsCount.{ones-with, ones-lt}
 use Rattle.format.specs.Image.{member, graphOf}
 use Rattle.format.specs.Table.{treeOf}
-use Rattle.format.specs.declared.record.Record.{Record}
-use Rattle.rules.specs.Reading.{onward, readWalk}
-use Rattle.rules.specs.declared.Rule.{Rule}
-use Rattle.rules.specs.declared.Progress.{Progress}
+use Rattle.rules.specs.Reading.{readWalk}
 use Rattle.hand.specs.Side.{sided}
-use Rattle.checker.specs.Reading.{Small, OffWalk, Ready, walkOf, allows, readA, readAlong, readOn, readPremisesOf}
-use Rattle.checker.proofs.ReadingLaws.{in-turn}
+use Rattle.checker.specs.Reading.{walkOf, readAlong, readOn}
 
 -- A stage that is in a set, and one that is not.
 pub member-has : (s k : ℕ) → Has s k → member s k ≡ true
@@ -75,56 +66,3 @@ module _ {set s : ℕ} (small : set < 2 ^ width) (room : s < width) (off : Has s
   along-on image table bytes side e env t =
       let fuel : suc (width - ones longer) ≡ width - ones set = omega (arith, grows .0, grows .1) in
       ap₂ (λ (n : ℕ) (w : Walk). readWalk width (graphOf image) bytes (sided side (treeOf image table e)) env n w t) fuel walk-on
-
--- ---- what an allowed rule says
-
-off-walk : (set s : ℕ) → not (member set s) ≡ true → Has set s → ⊥
-off-walk set s e h = subst T (sym e ∙ ap not (member-has set s h)) tt
-
-chosen : (n m : Bool) → (n && m) ≡ true → T n × (m ≡ true)
-chosen true m e = (tt, e)
-chosen false m e = absurd (subst T (sym e) tt)
-
--- There is room for a stage that has a successor.
-pub stage-room : {image table : List ℕ} (s t : ℕ) → Small image table → T (graphOf image .next s t) → s < width
-stage-room s t small h = omega (arith, small .stages, small .graph .inside s t h .0)
-
--- The rules that go on need a stage off the walk; where they go on at a chosen successor, there is room for the stage.
-module _ {image table : List ℕ} {e : ℕ} {r : Record} {env : Env} {set s : ℕ} {q : Rule} (ready : Ready image table e r env set s q) where
-  allowed-as : {p : Rule} → q ≡ p → allows image r env set s p ≡ true
-  allowed-as f = subst (λ (p : Rule). allows image r env set s p ≡ true) f (ready .allowed)
-
-  pub af-ready : q ≡ Rule.AfLater → OffWalk image table e r set s
-  af-ready f = record { entry = ready .entry; off = off-walk set s (allowed-as f) }
-
-  pub ar-ready : q ≡ Rule.ArOn → OffWalk image table e r set s
-  ar-ready f = record { entry = ready .entry; off = off-walk set s (allowed-as f) }
-
-  -- One stage more is on the walk, and the walk with it added is read as the rules' longer walk.
-  module _ (fits : set < 2 ^ width) {longer : ℕ} (is : longer ≡ bitOr set (single s)) where
-    on-at : (c : ℕ) → (graphOf image .next s c && not (member set s)) ≡ true → (s < width) × (Has set s → ⊥)
-    on-at c f = let h = chosen (graphOf image .next s c) (not (member set s)) f in (stage-room s c (ready .entry .small) (h .0), off-walk set s (h .1))
-
-    pub eg-grows : {c : ℕ} → q ≡ Rule.EgOn c → (ones longer ≡ suc (ones set)) × (ones set < width)
-    eg-grows {c} f = let on = on-at c (allowed-as f) in grows fits (on .0) (on .1) is
-
-    pub eu-grows : {c : ℕ} → q ≡ Rule.EuLater c → (ones longer ≡ suc (ones set)) × (ones set < width)
-    eu-grows {c} f = let on = on-at c (allowed-as f) in grows fits (on .0) (on .1) is
-
-    -- a here, and the walk at the chosen stage
-    module _ (bytes : List ℕ) (side : ℕ) (came : Progress) {p p′ : Progress} (first : p ≡ onward came (readA image table bytes side e r env s)) where
-      pub eg-proves : {c : ℕ} → q ≡ Rule.EgOn c → p′ ≡ onward p (readAlong image table bytes side e env longer c)
-          → p′ ≡ onward came (readPremisesOf image table bytes side e r env set s q)
-      eg-proves {c} f second =
-          let on = on-at c (allowed-as f) in
-          rw f
-          (in-turn came (readA image table bytes side e r env s) (readOn image table bytes side e env set s c) first
-          (second ∙ ap (onward p) (along-on fits (on .0) (on .1) is image table bytes side e env c)))
-
-      pub eu-proves : {c : ℕ} → q ≡ Rule.EuLater c → p′ ≡ onward p (readAlong image table bytes side e env longer c)
-          → p′ ≡ onward came (readPremisesOf image table bytes side e r env set s q)
-      eu-proves {c} f second =
-          let on = on-at c (allowed-as f) in
-          rw f
-          (in-turn came (readA image table bytes side e r env s) (readOn image table bytes side e env set s c) first
-          (second ∙ ap (onward p) (along-on fits (on .0) (on .1) is image table bytes side e env c)))

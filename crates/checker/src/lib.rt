@@ -1,7 +1,6 @@
 // Checking a certificate: whether its bytes are the steps of a proof, by the rules of document 01, of the goal or of its dual. Nothing here
 // knows how a certificate was found.
 pub mod answer;
-mod conditions;
 mod header;
 mod steps;
 
@@ -12,7 +11,7 @@ use format::byte;
 use format::question;
 use format::question::Question;
 use hand::env::Env;
-use rules::Progress;
+use hand::setup;
 ghost use Prim.Native.Nat.{_≤_};
 ghost use lib.ListN.{length};
 ghost use Rattle.format.specs.Answers.{QuestionRead};
@@ -53,22 +52,39 @@ fn steps_of(image: &[u8], table: &[u8], certificate: &[u8], q: Question) -> Chec
         (reading (now (image .entry)) (now (table .entry)) (now (certificate .entry)) (q .goal) (q .start)) r ⌝ }
 {
     let side = byte(certificate, 5);
+    let shape = q.shape;
+    let inner = shape.image;
+    let mut all = [0u64; setup::SETS];
+    setup::decode(image, inner.sets, &mut all);
+    let mut entries = [0u8; setup::ENTRIES];
+    setup::prepare(image, table, shape.entries, side, &mut entries);
     let env = Env {
         slots: [q.start, 0, 0, 0],
     };
-    let from = Progress::At(header::BYTES);
-    match steps::formula(image, table, certificate, side, q.goal, env, from) {
-        Progress::At(end) => {
-            if end < certificate.len() {
-                Checked::Refused(Refusal::BytesRemain, end)
-            } else {
-                Checked::Side(side)
-            }
-        }
-        Progress::Missing => Checked::Refused(Refusal::ByteMissing, certificate.len()),
-        Progress::Wrong(place) => Checked::Refused(Refusal::WrongCode, place),
-        Progress::Fails(place) => Checked::Refused(Refusal::ConditionFails, place),
+    let mut fault = 0;
+    let end = steps::formula(
+        &all,
+        &entries,
+        certificate,
+        q.goal,
+        env,
+        header::BYTES,
+        &mut fault,
+    );
+    let size = certificate.len();
+    if end < size {
+        return Checked::Refused(Refusal::BytesRemain, end);
     }
+    if end == size {
+        return Checked::Side(side);
+    }
+    if end == size + 1 {
+        return Checked::Refused(Refusal::ByteMissing, size);
+    }
+    if end == size + 2 {
+        return Checked::Refused(Refusal::WrongCode, fault);
+    }
+    Checked::Refused(Refusal::ConditionFails, fault)
 }
 
 // The check for callers in C, as one number: `answer::code` says which.

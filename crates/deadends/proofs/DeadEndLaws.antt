@@ -4,14 +4,15 @@
 --     able-test                     the rounds that test it
 --     dead-unless                   a set of the stages at which it does not hold is the set of the dead ends
 --     listed-dead, listed-many      the set that the code lists, and that its number of stages fits a byte
---     clear-image, clear-row        an image that the report does not refuse, and the row that is decoded of it
+--     clear-image, all-stages, clear-row
+--                                   an image that the report does not refuse, its stages, and the row that is decoded of it
 --     read-image, read-refused      the arms of the answer of the image's reader
 --     report-nothing, report-clear, report-stages
 --                                   an image that was read is refused with 15, or not at all; its number of stages
 --     coded-report                  the number of a report and the lent buffer
 --
 -- Assumes nothing.
-use Prim.Native.Nat.{ℕ, _-_, _*_, _^_, _≤_, _<_}
+use Prim.Native.Nat.{ℕ, _-_, _*_, _^_, _≤_, _<_, min}
 use native.Mathlib.Omega.{arith}
 use mathlib.Core.Path.{_≡_, refl, sym, ap, subst}
 use mathlib.Core.Bool.{Bool}
@@ -77,6 +78,10 @@ module _ {image : List ℕ} (clear : Clear (reportConditions image)) where
   -- It is an image that is not refused,
   pub clear-image : Clear (imageConditions image)
   clear-image = clear-first (imageConditions image) (firedConditions image) clear
+
+  -- whose stages are all within the width,
+  pub all-stages : {n m : ℕ} → n ≡ stagesOf image → m ≡ min n width → m ≡ stagesOf image
+  all-stages n-is m-is = let few = sizes image clear-image .stages in omega arith
 
   -- and the row that is decoded of it holds its graph.
   pub clear-row : {n : ℕ} {before row : List ℕ} → n ≡ stagesOf image → width * words ≤ length before → Decoded image n before row → Row row n (graphOf image)

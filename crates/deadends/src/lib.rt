@@ -10,7 +10,9 @@ use format::byte;
 use format::image;
 use hand::setup;
 ghost use mathlib.Core.Path.{_≡_};
+ghost use Prim.Native.Nat.{min};
 ghost use Rattle.model.specs.Decides.{Decides};
+ghost use Rattle.sets.specs.Number.{width};
 ghost use Rattle.format.specs.Refusal.{Clear};
 ghost use Rattle.format.specs.Image.{stagesOf};
 ghost use Rattle.deadends.specs.DeadEnd.{NothingFires, reportConditions};
@@ -47,16 +49,24 @@ fn nothing_fires(image: &[u8]) -> bool
     false
 }
 
+// n, or the width where n is more. An image has no more stages than that; where the code says so itself, the loops over a row need no test for room.
+fn within_width(n: usize) -> usize
+    ensures { λ r. ⌜ r ≡ min n width ⌝ }
+{
+    if n < sets::WIDTH { n } else { sets::WIDTH }
+}
+
 // The report on an image that nothing refuses: all stages less those from which some path comes to a stage of predicate 0.
 fn listed(image: &[u8], n: usize) -> Report
     requires { ⌜ Clear (reportConditions (now image)) × (n ≡ stagesOf (now image)) ⌝ }
     ensures { λ r. ⌜ ReportAnswer (now (image .entry)) r ⌝ }
 {
+    let stages = within_width(n);
     let mut next = [0u64; setup::NEXT];
-    setup::decode(image, n, &mut next);
+    setup::decode(image, stages, &mut next);
     let fired = image::set(image, image::first_set(image, 0));
-    let all = sets::below(n);
-    let able = modal::eu(&next, n, all, fired);
+    let all = sets::below(stages);
+    let able = modal::eu(&next, stages, all, fired);
     let dead = sets::minus(all, able);
     Report::DeadEnds(dead, sets::count(dead) as u8)
 }

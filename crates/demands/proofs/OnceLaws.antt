@@ -3,7 +3,6 @@
 --     put-once           sets::row::store: the row with a set put in
 --     first-set-once     format::image::first_set: the number of a predicate's first set
 --     variables-once     format::variables::free: the free variables, in a set that fits the width, as every set of the code does
---     successors-once    hand::successors: the successors of a stage
 --
 -- Assumes nothing.
 use Prim.Native.Nat.{ℕ, _^_, _<_}
@@ -23,7 +22,6 @@ use Rattle.sets.proofs.LawsMember.{same?, has-lt, has-test, within-antisym}
 use Rattle.sets.proofs.LawsRow.{set-same, room-enough}
 use Rattle.format.specs.Image.{FirstSet}
 use Rattle.format.specs.Reading.{Variables}
-use Rattle.hand.specs.Hand.{SuccessorsOf}
 
 -- Two rows with a set put in at one place are one: they agree there, where there is room, and everywhere else.
 pub put-once : (row : List ℕ) (i s : ℕ) (a b : List ℕ) → Put row i s a → Put row i s b → a ≡ b
@@ -49,11 +47,3 @@ variables-once f r s h i p q =
   where
     inside : (a b : ℕ) → a < 2 ^ width → Variables f a → Variables f b → Within a b
     inside a b low u v k m = let l = has-lt a width k low m in v k l .1 (u k l .0 m)
-
--- Sets of the successors of one stage are one.
-pub successors-once : (image : List ℕ) (s : ℕ) (a b : Set) → SuccessorsOf image s (number a) → SuccessorsOf image s (number b) → a ≡ b
-successors-once image s a b p q =
-    set-same a b (within-antisym (number a) (number b) (inside (number a) (number b) p q) (inside (number b) (number a) q p))
-  where
-    inside : (r t : ℕ) → SuccessorsOf image s r → SuccessorsOf image s t → Within r t
-    inside r t u v k m = has-test t k .0 (subst T (u .each k ∙ sym (v .each k)) (has-test r k .1 m))

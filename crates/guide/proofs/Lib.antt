@@ -2,5 +2,5 @@
 pub mod TowardLaws
 pub mod NearestLaws
 pub mod SideLaws
-pub mod WorkedLaws
+pub mod LeadLaws
 pub mod Promise

@@ -1,13 +1,12 @@
 -- An entry's formula on a side: on side 0 it is the formula itself, on any other its dual, whose test is the negated test.
 --
 --     truth-zero, truth-dual    one truth value
---     truth-all, truth-none     every stage or none, by it
 --     where-zero, where-dual    the stages at which it holds
 --
 -- Assumes nothing.
 use Prim.Native.Nat.{ℕ, zero, suc, _-_, _≤_}
 use mathlib.Core.Path.{_≡_, refl, sym, ap, _∙_, subst}
-use mathlib.Core.Bool.{Bool, true, false, not}
+use mathlib.Core.Bool.{Bool, not}
 use mathlib.Core.List.{List}
 use lib.Bits.{bitAnd}
 use Rattle.model.specs.Formula.{bind}
@@ -18,10 +17,9 @@ use Rattle.format.specs.Image.{graphOf}
 use Rattle.format.specs.Table.{treeOf}
 use Rattle.hand.specs.Environment.{envOf}
 use Rattle.hand.specs.declared.env.Env.{Env}
-use Rattle.verdict.specs.Kinds.{always}
 use Rattle.verdict.specs.Evaluation.{Collects, truthOf, heldAt}
-use Rattle.verdict.proofs.CollectLaws.{collects-as, collects-all, collects-none, collects-lacks}
-use Rattle.guide.specs.Worked.{truthOn, heldOn}
+use Rattle.verdict.proofs.CollectLaws.{collects-as, collects-lacks}
+use Rattle.guide.specs.Sides.{truthOn, heldOn}
 
 module _ (image table : List ℕ) (e : ℕ) (env : Env) where
   -- Whether it holds.
@@ -31,15 +29,6 @@ module _ (image table : List ℕ) (e : ℕ) (env : Env) where
   pub truth-dual : (side : ℕ) (b : Bool) → (side ≡ 0 → ⊥) → b ≡ truthOf image table e env → not b ≡ truthOn image table side e env
   truth-dual zero b f h = absurd (f refl)
   truth-dual (suc k) b f h = ap not h ∙ sym (test-dual (graphOf image) (treeOf image table e) (envOf env))
-
-  -- Every stage where it holds, and none where it does not.
-  pub truth-all : (side n : ℕ) {b : Bool} {r : ℕ} → n ≤ width → b ≡ truthOn image table side e env → b ≡ true → r ≡ below n
-      → Collects n (always (truthOn image table side e env)) r
-  truth-all side n w h t a = collects-as (λ s i. sym t ∙ h) (collects-all w a)
-
-  pub truth-none : (side n : ℕ) {b : Bool} {r : ℕ} → b ≡ truthOn image table side e env → b ≡ false → r ≡ 0
-      → Collects n (always (truthOn image table side e env)) r
-  truth-none side n h f z = collects-as (λ s i. sym f ∙ h) (collects-none z)
 
   -- Where it holds, with variable x at the stage.
   pub where-zero : (side n x r : ℕ) → side ≡ 0 → Collects n (heldAt image table e env x) r → Collects n (heldOn image table side e env x) r

@@ -1,6 +1,6 @@
 -- Rows that lead each stage to a successor: what stands in a row that is filled, and the lowest successor in a set as trailing zeros give it.
 --
---     cleared-new, filled-nowhere                         a row that leads nowhere
+--     cleared-new                                         a row that leads nowhere
 --     filled-as, filled-after, filled-once                other words for what stands in it; filled once more; one row is so filled
 --     lowest-found, lowest-lacks                          the lowest stage of what a stage's successors and a set have in common
 --     lowest-in-row                                       the lowest successor in a set, of the graph that a row of successor sets holds
@@ -34,17 +34,13 @@ use Rattle.modal.specs.Row.{member, Row, Inside}
 use Rattle.modal.proofs.LawsMember.{below, member-all}
 use Rattle.written.specs.Choice.{lowest, lowestNext}
 use Rattle.written.proofs.LowestLaws.{lowest-is, lowest-none, lowest-same}
-use Rattle.guide.specs.Toward.{Filled, nowhere, Cleared, lowestIn, settled}
+use Rattle.guide.specs.Toward.{Filled, Cleared, lowestIn, settled}
 
 -- ---- a row that is filled
 
 -- A new row of zeros leads nowhere.
 pub cleared-new : {n : ℕ} → n ≤ width → Cleared n (replicate width 0)
 cleared-new w s h = getD-replicate {A = ℕ} width s 0 0 (omega arith)
-
--- A row that leads nowhere is filled with that already.
-pub filled-nowhere : {n : ℕ} {row : List ℕ} → Cleared n row → Filled n nowhere row row
-filled-nowhere c = record { each = c; kept = λ s h. refl; size = refl }
 
 -- What is put in counts below n alone.
 pub filled-as : {n : ℕ} {v w : ℕ → ℕ} {before after : List ℕ} → ((s : ℕ) → s < n → v s ≡ w s) → Filled n v before after → Filled n w before after
@@ -113,7 +109,12 @@ module _ (next : List ℕ) (n new set : ℕ) {before : List ℕ} where
     small = w;
     inside = i;
     among = λ s h. h;
-    filled = record { each = λ s h. ap (λ (b : Bool). pick b (lowestIn next n set s) (getD before s 0)) (sym (none (member new s))); kept = λ s h. refl; size = refl };
+    filled = record {
+      each = λ s h. ap (λ (b : Bool). pick b (lowestIn next n set s) (getD before s 0)) (sym (none
+          (member new s)));
+      kept = λ s h. refl;
+      size = refl;
+    };
   }
     where
       none : (b : Bool) → (b && not b) ≡ false

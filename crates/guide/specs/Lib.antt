@@ -1,4 +1,3 @@
 -- What a writer goes by along a walk.
-pub mod Guide
+pub mod Sides
 pub mod Toward
-pub mod Worked

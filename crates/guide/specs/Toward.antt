@@ -4,20 +4,19 @@ use mathlib.Core.Path.{_≡_}
 use mathlib.Core.Bool.{_&&_}
 use mathlib.Core.List.{List}
 use lib.ListN.{length, getD}
+use Rattle.model.specs.Graph.{Graph}
 use Rattle.model.specs.Formula.{pick}
+use Rattle.logic.specs.Test.{Stages}
 use Rattle.sets.specs.Row.{held}
 use Rattle.modal.specs.Row.{member}
-use Rattle.written.specs.Choice.{lowest}
+use Rattle.verdict.specs.Evaluation.{Collects}
+use Rattle.written.specs.Choice.{lowest, nearest}
 
 -- `after` is `before` with `value s` at each stage s below n; all else is as it was.
 pub record Filled (n : ℕ) (value : ℕ → ℕ) (before after : List ℕ) : Type 0 where
   pub each : (s : ℕ) → s < n → getD after s 0 ≡ value s
   pub kept : (s : ℕ) → n ≤ s → getD after s 0 ≡ getD before s 0
   pub size : length after ≡ length before
-
--- Stage 0 for every stage: it leads nowhere.
-abbrev pub nowhere : ℕ → ℕ
-nowhere s = 0
 
 -- A row that leads nowhere below n.
 abbrev pub Cleared : ℕ → List ℕ → Type 0
@@ -30,3 +29,8 @@ lowestIn next n set s = lowest n (λ t. member (held next s) t && member set t)
 -- That successor for the stages that are in `new`, and for the others what stood there before.
 abbrev pub settled : List ℕ → ℕ → ℕ → ℕ → List ℕ → ℕ → ℕ
 settled next n new set before s = pick (member new s) (lowestIn next n set s) (getD before s 0)
+
+-- What EU goes by, where a and b hold at the stages a and b: the nows, and for each stage the successor fewest steps from one, the lowest of equals.
+pub record Nearest (G : Graph) (n : ℕ) (a b : Stages) (now : ℕ) (before after : List ℕ) : Type 0 where
+  pub nows : Collects n b now
+  pub leads : Filled n (nearest G a b) before after

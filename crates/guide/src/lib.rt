@@ -1,107 +1,95 @@
 // What a writer of the certificate goes by along a walk, worked out once when it comes to a formula, so that no step asks the verdict again.
 //
-// `guide` works it out: a set of stages at which the formula stops, and for each stage the successor to which it goes on. `choose` gives the rule of a
-// step from that, the stage and the walk, with no search.
+// `sides` says where an operand holds: the stages at which AF goes now and AR releases, and whether an or goes left. The functions here say to which
+// successor EX, EG and EU go on: EX at its one stage, the others in a row with a stage for each stage. So a step is a look into a set or a row, with no
+// search.
 //
-// The cost of `guide` with n stages: the stages at which the operands hold, each worked out once by the verdict, and then at most n rounds of n
-// operations. A step costs a few operations.
+// The cost with n stages: the stages at which the operands hold, each worked out once by the verdict, and then at most n rounds, each of which asks no
+// stage that was led in a round before.
 //
-// `guide` requires what a question that is not refused has (`Ready`), as the verdict's `where_holds` does, and a row with room for a stage for each
-// stage, that leads nowhere yet; `choose` takes any input.
-mod sides;
+// All require what a question that is not refused has (`Ready`), as the verdict's `where_holds` does, and a row with room for a stage for each stage,
+// which for EU must lead nowhere yet.
+pub mod sides;
 mod toward;
 
-use format::byte;
-use format::record;
-use format::record::Kind;
 use hand::env::Env;
-use rules::Rule;
 use sets::Set;
 ghost use mathlib.Core.Path.{_≡_};
-ghost use Prim.Native.Nat.{_≤_};
-ghost use lib.ListN.{length, getD};
+ghost use Prim.Native.Nat.{_≤_, _<_};
+ghost use lib.ListN.{length};
+ghost use Rattle.logic.specs.Test.{eg};
 ghost use Rattle.sets.specs.Number.{number};
-ghost use Rattle.format.specs.Image.{member};
+ghost use Rattle.format.specs.Image.{graphOf};
 ghost use Rattle.verdict.specs.Evaluation.{Ready};
-ghost use Rattle.written.specs.Choice.{ifSo};
-ghost use Rattle.guide.specs.Guide.{guided};
-ghost use Rattle.guide.specs.Toward.{Cleared};
-ghost use Rattle.guide.specs.Worked.{Guidance};
+ghost use Rattle.written.specs.Choice.{lowestNext};
+ghost use Rattle.guide.specs.Sides.{heldOn};
+ghost use Rattle.guide.specs.Toward.{Filled, Cleared, Nearest};
 
-// What guides a writer of an entry's formula on a side: the set of the stages at which it stops, and in `toward`, for each stage below n, the successor
-// to which it goes on. From n on the row is kept. For most kinds there is nothing to work out: the set is empty, and the row leads nowhere, as before.
-pub fn guide(
+// EX: the lowest successor of s at which a holds on a side, with variable x there; 0 where there is none.
+pub fn ex(
     image: &[u8],
     table: &[u8],
     next: &[u64],
     n: usize,
     side: u8,
-    e: u8,
+    a: u8,
+    env: Env,
+    x: u8,
+    s: u8,
+) -> u8
+    requires { ⌜ Ready (now image) (now table) (now next) n a env × (x < 4) × (s < n) ⌝ }
+    ensures { λ r. ⌜ r ≡ lowestNext (graphOf (now (image .entry))) (heldOn (now (image .entry)) (now (table .entry)) side a env x) s ⌝ }
+{
+    toward::lowest_next(
+        next,
+        n,
+        s as usize,
+        sides::where_on(image, table, next, n, side, a, env, x),
+    )
+}
+
+// EG: every stage below n is led to its lowest successor at which EG of a holds on a side; 0 where there is none. From n on the row is kept.
+pub fn eg(
+    image: &[u8],
+    table: &[u8],
+    next: &[u64],
+    n: usize,
+    side: u8,
+    a: u8,
+    env: Env,
+    x: u8,
+    toward: &mut [u8],
+)
+    requires { ⌜ Ready (now image) (now table) (now next) n a env × (x < 4) × (n ≤ length (now toward)) ⌝ }
+    ensures { λ _. ⌜ Filled n (lowestNext (graphOf (now (image .entry))) (eg (graphOf (now (image .entry)))
+        (heldOn (now (image .entry)) (now (table .entry)) side a env x))) (now (toward .entry)) (now (toward .exit)) ⌝ }
+{
+    let held = sides::where_on(image, table, next, n, side, a, env, x);
+    toward::fill(next, n, modal::eg(next, n, held), toward);
+}
+
+// EU: the stages at which b holds on a side, with y there, which are the nows; and every stage below n is led to the successor fewest steps from a now
+// along stages with a, the lowest of equals; 0 where there is none. From n on the row is kept.
+pub fn eu(
+    image: &[u8],
+    table: &[u8],
+    next: &[u64],
+    n: usize,
+    side: u8,
+    a: u8,
+    x: u8,
+    b: u8,
+    y: u8,
     env: Env,
     toward: &mut [u8],
 ) -> Set
-    requires { ⌜ Ready (now image) (now table) (now next) n e env × (n ≤ length (now toward)) × Cleared n (now toward) ⌝ }
-    ensures { λ r. ⌜ Guidance (now (image .entry)) (now (table .entry)) side e env (number r) (now (toward .entry)) (now (toward .exit)) ⌝ }
+    requires { ⌜ Ready (now image) (now table) (now next) n a env × (x < 4) × Ready (now image) (now table) (now next) n b env × (y < 4)
+        × (n ≤ length (now toward)) × Cleared n (now toward) ⌝ }
+    ensures { λ r. ⌜ Nearest (graphOf (now (image .entry))) n (heldOn (now (image .entry)) (now (table .entry)) side a env x)
+        (heldOn (now (image .entry)) (now (table .entry)) side b env y) (number r) (now (toward .entry)) (now (toward .exit)) ⌝ }
 {
-    let r = record::entry(table, e as usize);
-    let none = sets::empty();
-    match hand::kind_on(side, r.kind) {
-        Kind::Or => sides::all_or_none(image, table, next, n, side, r.a, env),
-        Kind::EX => {
-            let a = sides::where_on(image, table, next, n, side, r.a, env, r.x);
-            toward::fill(next, n, a, toward);
-            none
-        }
-        Kind::AF => sides::where_on(image, table, next, n, side, r.a, env, r.x),
-        Kind::EG => {
-            let a = sides::where_on(image, table, next, n, side, r.a, env, r.x);
-            toward::fill(next, n, modal::eg(next, n, a), toward);
-            none
-        }
-        Kind::AR => sides::where_on(image, table, next, n, side, r.a, env, r.x),
-        Kind::EU => {
-            let a = sides::where_on(image, table, next, n, side, r.a, env, r.x);
-            let b = sides::where_on(image, table, next, n, side, r.b, env, r.y);
-            toward::nearest(next, n, a, b, toward);
-            b
-        }
-        Kind::True => none,
-        Kind::False => none,
-        Kind::Is => none,
-        Kind::IsNot => none,
-        Kind::And => none,
-        Kind::AX => none,
-        Kind::NoKind => none,
-    }
-}
-
-// One rule where a test passes, else another.
-fn if_so(test: bool, yes: Rule, no: Rule) -> Rule
-    ensures { λ r. ⌜ r ≡ ifSo test yes no ⌝ }
-{
-    if test { yes } else { no }
-}
-
-// The rule for a formula of a kind at stage s of its walk.
-pub fn choose(kind: Kind, stop: Set, toward: &[u8], walk: Set, s: u8) -> Rule
-    ensures { λ r. ⌜ r ≡ guided kind (member (number stop) s) (getD (now (toward .entry)) s 0) (member (number walk) s) ⌝ }
-{
-    let here = sets::has(stop, s as usize);
-    let on = sets::has(walk, s as usize);
-    let c = byte(toward, s as usize);
-    match kind {
-        Kind::True => Rule::True,
-        Kind::False => Rule::True,
-        Kind::Is => Rule::Holds,
-        Kind::IsNot => Rule::HoldsNot,
-        Kind::And => Rule::And,
-        Kind::Or => if_so(here, Rule::OrLeft, Rule::OrRight),
-        Kind::AX => Rule::Ax,
-        Kind::EX => Rule::Ex(c),
-        Kind::AF => if_so(here, Rule::AfNow, Rule::AfLater),
-        Kind::EG => if_so(on, Rule::EgMerge, Rule::EgOn(c)),
-        Kind::AR => if_so(on, Rule::ArMerge, if_so(here, Rule::ArRelease, Rule::ArOn)),
-        Kind::EU => if_so(here, Rule::EuNow, Rule::EuLater(c)),
-        Kind::NoKind => Rule::True,
-    }
+    let along = sides::where_on(image, table, next, n, side, a, env, x);
+    let now = sides::where_on(image, table, next, n, side, b, env, y);
+    toward::nearest(next, n, along, now, toward);
+    now
 }

@@ -6,21 +6,11 @@ use verdict::truth;
 ghost use mathlib.Core.Path.{_≡_};
 ghost use Prim.Native.Nat.{_<_};
 ghost use Rattle.sets.specs.Number.{number};
-ghost use Rattle.verdict.specs.Kinds.{always};
 ghost use Rattle.verdict.specs.Evaluation.{Collects, Ready};
-ghost use Rattle.guide.specs.Worked.{truthOn, heldOn};
+ghost use Rattle.guide.specs.Sides.{truthOn, heldOn};
 
 // Whether an entry's formula holds on a side: one truth value.
-fn holds_on(image: &[u8], table: &[u8], next: &[u64], n: usize, side: u8, e: u8, env: Env) -> bool
-    requires { ⌜ Ready (now image) (now table) (now next) n e env ⌝ }
-    ensures { λ r. ⌜ r ≡ truthOn (now (image .entry)) (now (table .entry)) side e env ⌝ }
-{
-    let holds = truth::holds(image, table, next, n, e, env);
-    if side == 0 { holds } else { !holds }
-}
-
-// Every stage below n where an entry's formula holds on a side, else none.
-pub(crate) fn all_or_none(
+pub fn holds_on(
     image: &[u8],
     table: &[u8],
     next: &[u64],
@@ -28,19 +18,16 @@ pub(crate) fn all_or_none(
     side: u8,
     e: u8,
     env: Env,
-) -> Set
+) -> bool
     requires { ⌜ Ready (now image) (now table) (now next) n e env ⌝ }
-    ensures { λ r. ⌜ Collects n (always (truthOn (now (image .entry)) (now (table .entry)) side e env)) (number r) ⌝ }
+    ensures { λ r. ⌜ r ≡ truthOn (now (image .entry)) (now (table .entry)) side e env ⌝ }
 {
-    if holds_on(image, table, next, n, side, e, env) {
-        sets::below(n)
-    } else {
-        sets::empty()
-    }
+    let holds = truth::holds(image, table, next, n, e, env);
+    if side == 0 { holds } else { !holds }
 }
 
 // The stages below n at which an entry's formula holds on a side with variable x there.
-pub(crate) fn where_on(
+pub fn where_on(
     image: &[u8],
     table: &[u8],
     next: &[u64],

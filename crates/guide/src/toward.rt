@@ -11,7 +11,7 @@ ghost use Rattle.written.specs.Choice.{nearest};
 ghost use Rattle.guide.specs.Toward.{Filled, Cleared, lowestIn, settled};
 
 // The lowest successor of s in a set; 0 where there is none.
-fn lowest_next(next: &[u64], n: usize, s: usize, set: Set) -> u8
+pub(crate) fn lowest_next(next: &[u64], n: usize, s: usize, set: Set) -> u8
     requires { ⌜ n ≤ width ⌝ }
     ensures { λ r. ⌜ r ≡ lowestIn (now (next .entry)) n (number set) s ⌝ }
 {

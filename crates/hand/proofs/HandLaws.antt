@@ -1,11 +1,10 @@
--- The formula in hand: its kind on a side, its atom, its stage and its successors. Each law takes what the contracts of the code say of plain
+-- The formula in hand: its kind on a side, its atom, and the successors of a stage. Each law takes what the contracts of the code say of plain
 -- values.
 --
 --     member-is                          a test of membership is `member`
 --     other-side                         on side 1 the kind is the dual's
---     stage-row                          the stage of a record, by the row of its kind
 --     atom-two-is, atom-one-is           an atom, as membership in one of its predicate's sets
---     successors-in, successors-out, leads-is
+--     successors-in, leads-is            the successors of a stage
 use Prim.Native.Nat.{ℕ, zero, suc, _+_, _≤_, _<_}
 use native.Mathlib.Omega.{arith}
 use mathlib.Core.Path.{_≡_, refl, sym, ap, ap₂, subst, _∙_}
@@ -35,11 +34,6 @@ pub other-side : (side : ℕ) (k : Kind) → (side ≡ 0 → ⊥) → dualKind k
 other-side zero k f = absurd (f refl)
 other-side (suc n) k f = refl
 
--- The stage of a record in an arm of the code's `match` on rows.
-pub stage-row : (r : Record) (env : Env) {k : Kind} {s arm : Sort} → k ≡ kindOf (r .kind) → s ≡ sortOf k → s ≡ arm
-    → startAs arm (value env (termOf (r .t))) ≡ startIn r env
-stage-row r env k-is s-is arm-is = ap (λ (s : Sort). startAs s (value env (termOf (r .t)))) (sym arm-is ∙ s-is ∙ ap sortOf k-is)
-
 -- An atom is membership: of arity 2, in the set of the first term's stage; of another arity, in the predicate's one set.
 module _ (image : List ℕ) (r : Record) (env : Env) {first : ℕ} (f : first ≡ firstSet image (r .a)) where
   pub atom-two-is : {t u set : ℕ} {b : Bool} → arityOf image (r .a) ≡ 2 → t ≡ value env (termOf (r .t)) → u ≡ value env (termOf (r .b))
@@ -54,16 +48,10 @@ module _ (image : List ℕ) (r : Record) (env : Env) {first : ℕ} (f : first �
   atom-one-is {t} {set} {b} n t-is set-is d =
       member-is set t b d ∙ ap₂ member (set-is ∙ ap (setOf image) f) t-is ∙ ap (atom (graphOf image) env) (sym (atom-one image r n))
 
--- A stage has its successor set, and what is no stage the empty one.
+-- A stage has its successor set.
 pub successors-in : (image : List ℕ) (s : ℕ) {r : ℕ} → s < stagesOf image → r ≡ setOf image s → SuccessorsOf image s r
 successors-in image s h e = record {
   each = λ t. ap (λ (z : ℕ). member z t) e ∙ ap (λ (b : Bool). b && member (setOf image s) t) (sym (lt-ltb s (stagesOf image) h));
-}
-
-pub successors-out : (image : List ℕ) (s : ℕ) {r : ℕ} → stagesOf image ≤ s → r ≡ 0 → SuccessorsOf image s r
-successors-out image s {r} h e = record {
-  each = λ t. ne-eqb (bit r t) 1 (λ k. omega (arith, ap (λ (z : ℕ). bit z t) e, bit-zero t))
-      ∙ ap (λ (b : Bool). b && member (setOf image s) t) (sym (le-ltb s (stagesOf image) h));
 }
 
 -- A test of membership in it says whether c is a successor.

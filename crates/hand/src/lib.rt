@@ -1,5 +1,5 @@
-// The formula in hand: the four variables as one value, the terms and the atom that are read in them, the kind that an entry's formula has on a
-// side, the stage at which it is in hand, and the successors of a stage. The search and the checker both go by these; all of them are total.
+// The formula in hand: the four variables as one value, the terms and the atom that are read in them, the kind that an entry's formula has on a side, and
+// what is prepared once of a setup (`setup`). The search and the checker both go by these.
 pub mod env;
 pub mod setup;
 
@@ -9,14 +9,11 @@ use format::image;
 use format::record;
 use format::record::Kind;
 use format::record::Record;
-use format::record::Sort;
-use sets::Set;
 ghost use mathlib.Core.Path.{_≡_};
-ghost use Rattle.sets.specs.Number.{number};
 ghost use Rattle.format.specs.Table.{kindOf};
 ghost use Rattle.hand.specs.Environment.{envOf};
 ghost use Rattle.hand.specs.Side.{dualKind, kindOn, numberOf};
-ghost use Rattle.hand.specs.Hand.{SuccessorsOf, atomIn, startIn};
+ghost use Rattle.hand.specs.Hand.{atomIn};
 
 // The kind of the dual. What is no kind counts as false.
 fn dual_of(kind: Kind) -> Kind
@@ -61,7 +58,7 @@ fn number_of(kind: Kind) -> u8
 }
 
 // The kind in hand, from the kind that a record has: on side 0 its own, on side 1 the dual's.
-pub fn kind_on(side: u8, kind: u8) -> Kind
+fn kind_on(side: u8, kind: u8) -> Kind
     ensures { λ r. ⌜ r ≡ kindOn side (kindOf kind) ⌝ }
 {
     let k = record::kind_of(kind);
@@ -69,25 +66,10 @@ pub fn kind_on(side: u8, kind: u8) -> Kind
 }
 
 // The number of the kind in hand.
-pub fn number_on(side: u8, kind: u8) -> u8
+pub(crate) fn number_on(side: u8, kind: u8) -> u8
     ensures { λ r. ⌜ r ≡ numberOf (kindOn side (kindOf kind)) ⌝ }
 {
     number_of(kind_on(side, kind))
-}
-
-// The stage at which a formula is in hand: that of a modality's term; of another formula, 0.
-pub fn start_of(r: Record, env: Env) -> u8
-    ensures { λ s. ⌜ s ≡ startIn r (envOf env) ⌝ }
-{
-    let sort = record::sort_of(record::kind_of(r.kind));
-    match sort {
-        Sort::Constant => 0,
-        Sort::Atom => 0,
-        Sort::Junction => 0,
-        Sort::Unary => env::stage_of(r.t, env),
-        Sort::Binary => env::stage_of(r.t, env),
-        Sort::NoSort => 0,
-    }
 }
 
 // Whether a record's atom is true.
@@ -101,16 +83,5 @@ pub fn atom_holds(image: &[u8], r: Record, env: Env) -> bool
         sets::has(image::set(image, first + t), b)
     } else {
         sets::has(image::set(image, first), t)
-    }
-}
-
-// The successors of a stage; none of what is no stage.
-pub fn successors(image: &[u8], s: u8) -> Set
-    ensures { λ r. ⌜ SuccessorsOf (now (image .entry)) s (number r) ⌝ }
-{
-    if s < byte(image, 5) {
-        image::set(image, s as usize)
-    } else {
-        sets::empty()
     }
 }

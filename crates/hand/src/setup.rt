@@ -25,6 +25,19 @@ const MOST: usize = 64;
 
 pub const ENTRIES: usize = 9 * MOST;
 
+// The fields of an entry that are bytes of its record, for who needs only one.
+pub const KIND: usize = 0;
+
+pub const A: usize = 1;
+
+pub const B: usize = 2;
+
+pub const X: usize = 3;
+
+pub const Y: usize = 4;
+
+pub const T: usize = 5;
+
 // An entry that is prepared on a side: its record, with the kind that it has there; and of an atom's predicate the arity and the number of its first set,
 // which of other kinds are 0.
 pub struct Entry {
@@ -125,8 +138,8 @@ fn put(entries: &mut [u8], k: usize, e: usize, b: u8)
     entries[MOST * k + e] = b;
 }
 
-// The byte in field k of entry e.
-fn field(entries: &[u8; ENTRIES], k: usize, e: u8) -> u8
+// The byte in field k of entry e. A caller shows that there are such: the test would cost a tenth of a check.
+pub fn field(entries: &[u8; ENTRIES], k: usize, e: u8) -> u8
     requires { ⌜ (k < 9) × (e < mostEntries) ⌝ }
     ensures { λ r. ⌜ r ≡ fieldAt (now (entries .entry)) k e ⌝ }
 {
@@ -140,7 +153,7 @@ fn wide(b: u8) -> usize
     b as usize
 }
 
-// The entry with a number. A caller shows that there is room for it: the test would cost a tenth of a check.
+// The entry with a number.
 pub fn entry_at(entries: &[u8; ENTRIES], e: u8) -> Entry
     requires { ⌜ e < mostEntries ⌝ }
     ensures { λ r. ⌜ HeldEntry (now (entries .entry)) e r ⌝ }

@@ -192,10 +192,3 @@ pub fn read_nth(bytes: &[u8], start: usize, i: usize) -> Set
         bits: high * 4294967296 + low,
     }
 }
-
-// The set stored in the bytes from a place on; empty where they are not all there.
-pub fn read(bytes: &[u8], at: usize) -> Set
-    ensures { λ r. ⌜ number r ≡ stored (now (bytes .entry)) at ⌝ }
-{
-    read_nth(bytes, at, 0)
-}

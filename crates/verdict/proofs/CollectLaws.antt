@@ -5,6 +5,7 @@
 --     collects-all, collects-none, computes-none every stage, and none
 --     collects-both, collects-either, collects-lacks, collects-clip
 --                                                in both sets, in either, in none, and what a set has below n
+--     settled-none, settled-all                  the first operand settles "and", and "or"
 --     collects-start, collects-take, collects-skip, collects-end
 --     collects-once                              one set collects a test
 --
@@ -21,13 +22,13 @@ use borrow.Author.Tests.{eq-eqb, ne-eqb}
 use Rattle.model.specs.Decides.{Decides}
 use Rattle.model.specs.Graph.{Graph}
 use Rattle.logic.specs.Test.{Stages}
-use Rattle.sets.specs.Member.{bit, Has, Within}
+use Rattle.sets.specs.Member.{bit, Has, Within, Empty}
 use Rattle.sets.specs.Number.{single, width}
 use Rattle.sets.proofs.LawsMember.{same?, has-test, has-and, has-with, within-antisym}
 use Rattle.modal.specs.Row.{member, Row, Computes}
 use Rattle.modal.proofs.LawsMember.{member-says, member-or, member-and, member-minus, member-none, member-all}
 use Rattle.modal.proofs.LawsMember.{below, inside-or, inside-left, inside-minus, inside-all}
-use Rattle.verdict.specs.Kinds.{always}
+use Rattle.verdict.specs.Kinds.{joined, Settled, always}
 use Rattle.verdict.specs.Evaluation.{Collects}
 
 -- What collects one test collects any that is the same below n.
@@ -83,6 +84,22 @@ collects-clip {n} {r} {all} a w f e = record {
     and-true : (b : Bool) → (b && true) ≡ b
     and-true true = refl
     and-true false = refl
+
+-- ---- "and" and "or" with the first operand alone
+
+-- "And" is settled where the first operand holds at no stage.
+pub settled-none : (r : Bool) (n a : ℕ) {first : Bool} → first ≡ true → Decides r (Empty a) → Settled r n first a
+settled-none true n a first-is none = λ s h b.
+    let lacks : member a s ≡ false = ne-eqb (bit a s) 1 (none s) in
+    ap₂ (λ (f m : Bool). joined f m b) first-is lacks ∙ sym lacks
+settled-none false n a first-is some = tt
+
+-- "Or" is settled where it holds at every stage below n.
+pub settled-all : (r : Bool) (n a : ℕ) {all : ℕ} {first : Bool} → first ≡ false → n ≤ width → all ≡ below n → Decides r (Within all a) → Settled r n first a
+settled-all true n a {all} first-is w all-is within = λ s h b.
+    let has : member a s ≡ true = eq-eqb (bit a s) 1 (within s (has-test all s .0 (subst T (sym (member-all all-is w s h)) tt))) in
+    ap₂ (λ (f m : Bool). joined f m b) first-is has ∙ sym has
+settled-all false n a first-is w all-is some = tt
 
 -- ---- a set filled stage by stage
 

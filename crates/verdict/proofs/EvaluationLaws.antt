@@ -3,7 +3,7 @@
 --     ready-lower, ready-bound, ready-rule                    what an evaluation goes by, at a lower entry and under a binding
 --     junction-first, junction-second, unary-operand, binary-first, binary-second
 --                                                             so that it can go on to an operand
---     constant-arm, literal-arm, junction-arm, unary-arm, binary-arm, none-arm
+--     constant-arm, literal-arm, junction-arm, settled-arm, unary-arm, binary-arm, none-arm
 --                                                             the stages at which a formula holds, by the row of its kind
 --     unary-here, binary-here                                 a modality holds where it does from the stage of its term
 --     unary-set, binary-set, no-set                           the stages from which a modality holds
@@ -30,7 +30,7 @@ use Rattle.format.specs.declared.record.Sort.{Sort}
 use Rattle.format.specs.declared.record.Sort.the-variants as S
 use Rattle.format.proofs.TreeLaws.{Row}
 use Rattle.hand.specs.Environment.{envOf, Bound}
-use Rattle.verdict.specs.Kinds.{isFirst, literal, joined, joinedNumber, always, modal, modalOn}
+use Rattle.verdict.specs.Kinds.{isFirst, literal, joined, joinedNumber, Settled, always, modal, modalOn}
 use Rattle.verdict.specs.Modality.{atStage, Inner}
 use Rattle.verdict.specs.Evaluation.{Collects, Ready, heldAt, heldFrom, fromTerm, modalAt, literalAt, termIn}
 use Rattle.hand.specs.declared.env.Env.{Env}
@@ -139,6 +139,21 @@ module _ {image table next : List ℕ} {n e : ℕ} {env : Env} (ready : Ready im
       ap (λ (t : Bool). joined t (test (graphOf image) (treeOf image table (r .a)) k) (test (graphOf image) (treeOf image table (r .b)) k)) f
       ∙ sym (test-row image row ready-rule (graphOf image) k))
       (joined-collects first a b out c d z)
+
+  -- The first operand alone, where it settles the whole.
+  pub settled-arm : (x : ℕ) {r : Record} (first settled : Bool) (a : ℕ) → Row table e r S.Junction → first ≡ isFirst (kindOf (r .kind))
+      → Collects n (heldAt image table (r .a) env x) a → settled ≡ true → Settled settled n first a → Collects n (heldAt image table e env x) a
+  settled-arm x {r} first settled a row f c taken says =
+      let stays = subst (λ (t : Bool). Settled t n first a) taken says in
+      record {
+        inside = c .inside;
+        right = λ s h.
+            let k = bind (envOf env) x s in
+            let p = test (graphOf image) (treeOf image table (r .a)) k in
+            let q = test (graphOf image) (treeOf image table (r .b)) k in
+            sym (stays s h q) ∙ ap (λ (m : Bool). joined first m q) (c .right s h) ∙ ap (λ (t : Bool). joined t p q) f
+            ∙ sym (test-row image row ready-rule (graphOf image) k);
+      }
 
   -- A modality holds where it does from the stage of its term.
   from-here : {r : Record} {s : Sort} → Row table e r s → (c : Environment)

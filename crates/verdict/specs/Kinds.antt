@@ -1,5 +1,6 @@
 -- What each kind says of its operands, with what its operands say put in.
-use Prim.Native.Nat.{ℕ}
+use Prim.Native.Nat.{ℕ, _<_}
+use mathlib.Core.Path.{_≡_}
 use mathlib.Core.Bool.{Bool, true, false, not, _&&_, _||_}
 use lib.Bits.{bitAnd, bitOr}
 use Rattle.model.specs.Graph.{Graph}
@@ -37,6 +38,11 @@ joined false a b = a || b
 abbrev pub joinedNumber : Bool → ℕ → ℕ → ℕ
 joinedNumber true a b = bitAnd a b
 joinedNumber false a b = bitOr a b
+
+-- Where it is said of a set a that it settles "and" or "or" below n, the whole is there as a says, whatever the second operand says.
+abbrev pub Settled : Bool → ℕ → Bool → ℕ → Type 0
+Settled true n first a = (s : ℕ) → s < n → (b : Bool) → joined first (member a s) b ≡ member a s
+Settled false n first a = Unit {0}
 
 -- Every stage, or none.
 abbrev pub always : Bool → Stages

@@ -11,7 +11,8 @@ ghost use Prim.Native.Nat.{_<_};
 ghost use Rattle.sets.specs.Number.{number};
 ghost use Rattle.verdict.specs.Evaluation.{Collects, Ready, heldAt, modalAt, heldFrom};
 
-// The stages below n at which an entry's formula holds with variable x there, and every other variable where env has it.
+// The stages below n at which an entry's formula holds with variable x there, and every other variable where env has it. Where the first operand
+// of "and" or "or" settles it at every stage, the second is not looked at.
 pub fn where_holds(
     image: &[u8],
     table: &[u8],
@@ -32,8 +33,12 @@ pub fn where_holds(
         Sort::Atom => atoms::where_literal(image, n, r, first, env, x),
         Sort::Junction => {
             let a = where_holds(image, table, next, n, r.a, env, x);
-            let b = where_holds(image, table, next, n, r.b, env, x);
-            kinds::joined(first, a, b)
+            if kinds::settled(n, first, a) {
+                a
+            } else {
+                let b = where_holds(image, table, next, n, r.b, env, x);
+                kinds::joined(first, a, b)
+            }
         }
         Sort::Unary => where_modal(image, table, next, n, e, env, x),
         Sort::Binary => where_modal(image, table, next, n, e, env, x),
@@ -72,7 +77,7 @@ fn where_each(image: &[u8], table: &[u8], next: &[u64], n: usize, e: u8, env: En
 }
 
 // The stages below n from which a modality holds, whatever its term; none where the entry is no modality. x is bound in a only, y in b only.
-pub fn modal_set(image: &[u8], table: &[u8], next: &[u64], n: usize, e: u8, env: Env) -> Set
+pub(crate) fn modal_set(image: &[u8], table: &[u8], next: &[u64], n: usize, e: u8, env: Env) -> Set
     requires { ⌜ Ready (now image) (now table) (now next) n e env ⌝ }
     ensures { λ r. ⌜ Collects n (heldFrom (now (image .entry)) (now (table .entry)) e env) (number r) ⌝ }
 {

@@ -5,7 +5,7 @@ ghost use mathlib.Core.Path.{_≡_};
 ghost use Prim.Native.Nat.{_≤_};
 ghost use Rattle.sets.specs.Number.{number, width};
 ghost use Rattle.modal.specs.Row.{Computes};
-ghost use Rattle.verdict.specs.Kinds.{isFirst, joinedNumber, always, modalOn};
+ghost use Rattle.verdict.specs.Kinds.{isFirst, joinedNumber, Settled, always, modalOn};
 ghost use Rattle.verdict.specs.Evaluation.{Collects};
 
 // Whether a kind is the first of its pair of duals: true/false, P/not P, and/or, AX/EX, AF/EG, AR/EU.
@@ -35,6 +35,18 @@ pub(crate) fn all_or_none(n: usize, all: bool) -> Set
     ensures { λ r. ⌜ Collects n (always all) (number r) ⌝ }
 {
     if all { sets::below(n) } else { sets::empty() }
+}
+
+// Whether the first operand's stages settle "and" or "or" at every stage below n: it holds at none of them, or at all.
+pub(crate) fn settled(n: usize, first: bool, a: Set) -> bool
+    requires { ⌜ n ≤ width ⌝ }
+    ensures { λ r. ⌜ Settled r n first (number a) ⌝ }
+{
+    if first {
+        sets::is_empty(a)
+    } else {
+        sets::subset(sets::below(n), a)
+    }
 }
 
 // The stages of both sets for "and", those of either for "or".

@@ -1,23 +1,30 @@
 -- From the two runs over a certificate to the answer.
 --
 --     whole-certificate          what a run over the side that holds goes through is the certificate
+--     question-holding           what a run asks: the setup, and that the side holds
 --     no-room, with-room         the buffer is too short; the certificate was written
 --     question-refused, question-answered
 --                                the arms of the answer of the question's reader
-use Prim.Native.Nat.{ℕ, _+_, _≤_, _<_}
+use Prim.Native.Nat.{ℕ, _+_, _*_, _≤_, _<_}
 use native.Mathlib.Omega.{arith}
 use native.Mathlib.Nat.{zero-add}
-use mathlib.Core.Path.{_≡_, refl, sym, ap, ap₂, _∙_, subst₂}
-use mathlib.Core.Bool.{true, false}
+use mathlib.Core.Path.{_≡_, refl, sym, ap, ap₂, _∙_, subst, subst₂}
+use mathlib.Core.Bool.{Bool, true, false, not}
 use mathlib.Core.List.{List, _++_}
 use mathlib.Core.Logic.{inl}
+use lib.Dec.{T}
 use lib.ListN.{length, drop}
 use lib.Seq.{sets-eq}
 use Rattle.model.specs.Formula.{Env}
 use Rattle.logic.specs.Test.{test}
 use Rattle.format.specs.Refusal.{Clear}
-use Rattle.format.specs.Image.{graphOf}
-use Rattle.format.specs.Table.{treeOf}
+use Rattle.logic.proofs.Duality.{test-dual}
+use Rattle.sets.specs.Number.{width}
+use Rattle.sets.specs.Row.{words}
+use Rattle.sets.proofs.LawsRow.{room-enough}
+use Rattle.modal.specs.Row.{Row}
+use Rattle.format.specs.Image.{stagesOf, graphOf}
+use Rattle.format.specs.Table.{entriesOf, treeOf}
 use Rattle.format.specs.Question.{questionConditions}
 use Rattle.format.specs.Answers.{QuestionRead, QuestionAnswer}
 use Rattle.format.specs.declared.Refusal.{Refusal}
@@ -26,12 +33,18 @@ use Rattle.format.specs.declared.question.Question.{Question}
 use Rattle.format.specs.declared.question.Answer.{Answer as Read}
 use Rattle.format.specs.declared.question.Answer.the-variants as Qu
 use Rattle.format.proofs.RefusalLaws.{given-first, given-later, clear-both}
+use Rattle.format.proofs.ReadableLaws
+use Rattle.format.proofs.ReadableLaws.{of-setup, of-image, of-table, sizes}
 use Rattle.hand.specs.Environment.{envOf}
+use Rattle.hand.specs.Setup.{Decoded, Prepared, entryBytes}
+use Rattle.hand.specs.declared.env.Env.{Env as Slots}
+use Rattle.hand.proofs.HandLaws.{successors-in}
 use Rattle.hand.proofs.EnvironmentLaws.{start-env}
 use Rattle.verdict.specs.Evaluation.{truthOf}
-use Rattle.verdict.proofs.AnswerLaws.{startEnv, asked-refused, own-goal, own-start}
+use Rattle.verdict.proofs.AnswerLaws.{startEnv, asked-readable, question-ready, question-row, asked-refused, own-goal, own-start}
+use Rattle.guide.specs.Sides.{truthOn}
 use Rattle.writer.specs.Wrote.{Wrote}
-use Rattle.writer.specs.Steps.{entrySteps, wholeBytes}
+use Rattle.writer.specs.Steps.{entrySteps, wholeBytes, Holding}
 use Rattle.writer.specs.Write.{sideBy, sideFor, certificateOn, certificate, roomConditions, WriteAnswer}
 use Rattle.writer.specs.declared.answer.Answer.{Answer}
 use Rattle.writer.specs.declared.answer.Answer.the-variants as An
@@ -85,6 +98,44 @@ module _ (image table : List ℕ) (goal start : ℕ) where
 
         fits : 0 + length (runOver side) ≤ length left
         fits = omega (arith, size)
+
+-- ---- what a run asks
+
+-- The side that holds does so.
+side-holds : (image table : List ℕ) (e : ℕ) (env : Slots) (b : Bool) → truthOf image table e env ≡ b → T (truthOn image table (sideBy b) e env)
+side-holds image table e env true t = subst T (sym t) tt
+side-holds image table e env false t = subst T (sym (test-dual (graphOf image) (treeOf image table e) (envOf env) ∙ ap not t)) tt
+
+-- A question that was read, its row decoded and its entries prepared.
+pub question-holding : {image table next entries before blank : List ℕ} {q : Question} {side : ℕ} → QuestionRead image table (q .goal) (q .start) q
+    → width * words ≤ length before → Decoded image (q .shape .image .stages) before next → entryBytes ≤ length blank
+    → Prepared image table (q .shape .entries) side blank entries → side ≡ sideBy (truthOf image table (q .goal) (startEnv (q .start)))
+    → Holding image table next entries side (q .goal) (startEnv (q .start))
+question-holding {image} {table} {next} {entries} {before} {blank} {q} {side} read long d wide p side-is =
+    let clear = read .clear in
+    let of = of-setup image table (q .goal) (q .start) clear in
+    let few = sizes image (of-image image table of) .stages in
+    let fit = ReadableLaws.entries image table (of-table image table of) in
+    let n-is : q .shape .image .stages ≡ stagesOf image = ap (λ (k : Question). k .shape .image .stages) (read .is) in
+    let m-is : q .shape .entries ≡ entriesOf table = ap (λ (k : Question). k .shape .entries) (read .is) in
+    let row = subst (λ (k : ℕ). Row next k (graphOf image)) n-is (question-row read long d) in
+    let ready = question-ready clear row in
+    record {
+      setup =
+          record {
+            row = row;
+            sets = λ s h. successors-in image s h (d .sets s (omega (arith, n-is)) (room-enough before s (omega arith)));
+            readable = asked-readable clear;
+            ruled = ready .ruled;
+            most = fit .most;
+            prepared = λ i h. p .entries i (omega (arith, m-is)) (omega (arith, fit .most)) wide;
+          };
+      entry = ready .entry;
+      stand = ready .stand;
+      holds =
+          subst (λ (k : ℕ). T (truthOn image table k (q .goal) (startEnv (q .start)))) (sym side-is)
+          (side-holds image table (q .goal) (startEnv (q .start)) _ refl);
+    }
 
 -- ---- the question
 

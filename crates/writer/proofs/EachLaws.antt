@@ -3,11 +3,9 @@
 --
 --     Turns                     the invariant: what is to be written at the successors below a number is, and those from there on are left
 --     turn-of                   a turn, from what the contracts of `is_empty`, `lowest` and `rest` say
---     next-of                   the successors of a stage in a row, as the code takes them
---     each-start, each-stage, each-next, each-end
+--     each-start, each-stage, each-edge, each-next, each-end
 --                               the loop over the successors of a stage of an image
---     through-same              writers that agree at each successor write alike
-use Prim.Native.Nat.{ℕ, zero, suc, _-_, _^_, _≤_, _<_, min}
+use Prim.Native.Nat.{ℕ, zero, suc, _-_, _^_, _≤_, _<_}
 use native.Mathlib.Omega.{arith}
 use mathlib.Core.Path.{_≡_, refl, sym, ap, ap₂, subst, _∙_}
 use mathlib.Core.Bool.{Bool, true, false, not}
@@ -18,11 +16,11 @@ use lib.Count.{trailingZeros}
 use lib.Dec.{T}
 use lib.ListN.{length}
 use Rattle.model.specs.Decides.{Decides, denied, granted}
-use Rattle.model.specs.Graph.{Graph}
+use Rattle.model.specs.Graph.{Graph, Next}
 use Rattle.sets.specs.Member.{Has, Empty}
 use Rattle.sets.specs.Number.{width}
 use Rattle.sets.specs.Row.{held}
-use Rattle.sets.proofs.LawsMember.{side?, has-test, has-and, has-below, below-room, empty-zero}
+use Rattle.sets.proofs.LawsMember.{side?, has-test, empty-zero}
 use Rattle.sets.proofs.LawsLowest.{lowest-le, lowest-has, has-rest, rest-small}
 use Rattle.sets.proofs.LawsWalk.{Turn}
 use Rattle.modal.specs.Row.{Row}
@@ -44,12 +42,6 @@ skipped next f from (suc k) h none =
     ∙ append-nil (through from next f))
     (λ l. let e : suc k ≡ from = omega arith in ap (λ (i : ℕ). through i next f) e)
     (side? from (suc k))
-
--- Writers that agree at each successor below n write alike.
-pub through-same : (next : ℕ → Bool) (f g : ℕ → List ℕ) (n : ℕ) → ((t : ℕ) → f t ≡ g t) → through n next f ≡ through n next g
-through-same next f g zero same = refl
-through-same next f g (suc n) same =
-    ap₂ (λ (a b : List ℕ). a ++ b) (through-same next f g n same) (ap (visit (next n)) (same n))
 
 -- ---- the turns of the loop
 
@@ -137,20 +129,6 @@ module _ (n : ℕ) (next : ℕ → Bool) (f : ℕ → List ℕ) (w : Bool) (plac
 
 -- ---- the successors of a stage
 
--- What the code takes from a row: the set of the stage, less what is not below n.
-pub next-of : (next : List ℕ) (n s : ℕ) {set mask r : ℕ} → n ≤ width → set ≡ held next s → mask ≡ 2 ^ min n width - 1 → r ≡ bitAnd set mask
-    → NextOf next n s r
-next-of next n s {set} {mask} {r} few set-is mask-is r-is = record {
-  each = λ t. (
-    λ h. let g = has-and set mask t .0 (subst (λ (z : ℕ). Has z t) r-is h) in
-        (subst (λ (z : ℕ). Has z t) set-is (g .0), has-below n t .0 (subst (λ (z : ℕ). Has z t) (mask-is ∙ below-room n few) (g .1))),
-    λ h.
-        subst (λ (z : ℕ). Has z t) (sym r-is)
-        (has-and set mask t .1
-        (subst (λ (z : ℕ). Has z t) (sym set-is) (h .0), subst (λ (z : ℕ). Has z t) (sym (mask-is ∙ below-room n few)) (has-below n t .1 (h .1)))),
-  );
-}
-
 module _ {next : List ℕ} {n : ℕ} {G : Graph} (row : Row next n G) {s : ℕ} (at : s < n) (f : ℕ → List ℕ) (w : Bool) (place : ℕ) (before : List ℕ) where
   abbrev pub Each : ℕ → List ℕ → ℕ → Type 0
   Each there left here = Turns (G .stages) (G .next s) f w place before there left here
@@ -167,6 +145,9 @@ module _ {next : List ℕ} {n : ℕ} {G : Graph} (row : Row next n G) {s : ℕ} 
   module _ {there k others here : ℕ} {left : List ℕ} (g : Each there left here) (turn : Turn there k others) where
     pub each-stage : k < n
     each-stage = omega (arith, row .stages, turn-stage (G .stages) (G .next s) f w place before g turn .1)
+
+    pub each-edge : Next G s k
+    each-edge = turn-stage (G .stages) (G .next s) f w place before g turn .0
 
     pub each-next : {last : List ℕ} {after : ℕ} → Wrote w (f k) here left last after → Each others last after
     each-next wrote = turns-next (G .stages) (G .next s) f w place before g turn wrote

@@ -1,8 +1,11 @@
--- The laws of writing.
+-- The laws of a writer, over plain values: each function's proof hands its facts to them.
 pub mod WroteLaws
-pub mod StepLaws
 pub mod EachLaws
+pub mod AfLaws
+pub mod AlongLaws
+pub mod KindLaws
 pub mod WriterLaws
+pub mod StepLaws
 pub mod AnswerLaws
 pub mod Promise
 pub mod Example

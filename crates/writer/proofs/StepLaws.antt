@@ -1,293 +1,261 @@
--- The steps of a record's formula on a side, over plain values: those of an operand, those from the start of a walk, and one step of a walk, which is the
--- rule's code and what follows it.
+-- What a guide tells in the words of an entry's fields, and one step of each walk in the words of the contracts.
 --
---     lower-operand, other-operand     an operand's steps are those of the entry with its number, or those of false
---     start-below, from-start          a walk starts at a stage, and what is written from there is the whole
---     no-fuel, one-step                one step of a walk
---     walk-on                          a walk held as a set, with a stage added
---     chosen-below, rule-chosen        a writer is guided to stages only, and by the chosen rule
-use Prim.Native.Nat.{ℕ, zero, suc, _+_, _≤_, _<_}
+--     told-true, told-false, choice-of, collects-of, leads-of, nearest-of
+--                                        what the guide says of operands that are read of the entry, said of those of its record
+--     af-now-steps, af-later-steps       AF at a stage
+--     noted-new, noted-more, known-past, known-fits
+--                                        the lengths of AF that are noted
+--     eg-begins, eg-merges, eg-goes      EG in a loop
+--     one-ends, two-ends                 no fuel is left
+--     ar-begins, ar-merges, ar-releases, ar-goes
+--                                        AR at a stage
+--     eu-begins, eu-stops, eu-goes       EU in a loop
+use Prim.Native.Nat.{ℕ, suc, _+_, _-_, _≤_, _<_}
 use native.Mathlib.Numerals.{add-one}
 use native.Mathlib.Omega.{arith}
-use mathlib.Core.Path.{_≡_, refl, sym, ap, ap₂, subst, _∙_, fun-ext}
-use mathlib.Core.Bool.{Bool, true, false, _||_}
-use mathlib.Core.List.{List, [], _∷_, _++_}
-use mathlib.Core.Logic.{inl, inr, ⊎-elim, _≢_}
+use mathlib.Core.Path.{_≡_, refl, sym, ap, ap₂, subst, _∙_}
+use mathlib.Core.Bool.{Bool, true, false}
+use mathlib.Core.List.{List, [], _∷_, _++_, append-assoc}
+use mathlib.Core.Logic.{⊎-elim}
 use lib.Bits.{bitOr}
-use lib.Dec.{eqb}
-use lib.ListN.{getD}
-use borrow.Author.Tests.{eq-eqb, ne-eqb}
-use Rattle.model.specs.Graph.{Graph}
-use Rattle.model.specs.Formula.{Formula, truth, falsity, is, isNot, and, or, AX, EX, AF, EG, AR, EU, Env, value, Below}
-use Rattle.logic.specs.Test.{Stand}
-use Rattle.logic.specs.Rules.{Walk, empty, also}
-use Rattle.logic.proofs.Compare.{term-stands}
-use Rattle.sets.specs.Member.{bit, Has}
+use lib.Dec.{T}
+use lib.ListN.{length, getD, set, replicate}
+use lib.Seq.{getD-set-same, getD-set-other, set-out}
+use Rattle.logic.specs.Rules.{Walk, empty, also, On}
+use Rattle.logic.specs.Test.{Stages, eg, eu}
 use Rattle.sets.specs.Number.{single, width}
-use Rattle.sets.proofs.LawsBit.{bit-zero}
-use Rattle.sets.proofs.LawsMember.{same?, has?, has-with}
-use Rattle.format.specs.Image.{stagesOf, member, graphOf}
-use Rattle.format.specs.Table.{entriesOf, recordAt, kindOf, sortOf, termOf, madeAs, nth, trees, treeOf}
-use Rattle.format.specs.declared.record.Record.{Record}
-use Rattle.format.specs.declared.record.Kind.{Kind}
+use Rattle.sets.specs.Row.{held}
+use Rattle.sets.proofs.LawsMember.{same?, side?}
+use Rattle.format.specs.Image.{stagesOf, graphOf}
 use Rattle.format.specs.declared.record.Kind.the-variants as K
-use Rattle.format.proofs.TreeLaws.{tree-at, tree-past}
-use Rattle.format.proofs.RuledLaws.{ruled-below}
-use Rattle.rules.specs.Table.{row, begin, body}
-use Rattle.rules.specs.Shape.{shape}
+use Rattle.rules.specs.Kind.{Kind}
+use Rattle.rules.specs.Table.{row}
 use Rattle.rules.specs.declared.Rule.{Rule}
 use Rattle.hand.specs.Environment.{envOf}
-use Rattle.hand.specs.Side.{sided, kindOn}
-use Rattle.hand.specs.Hand.{startAs, startIn}
 use Rattle.hand.specs.declared.env.Env.{Env as Slots}
-use Rattle.hand.proofs.SideLaws.{sided-entry, start-side}
-use Rattle.verdict.specs.Evaluation.{Ready}
-use Rattle.written.specs.Choice.{ifSo, choice}
-use Rattle.written.specs.Written.{parts, premises, written, writtenOn}
-use Rattle.written.proofs.ShapeLaws.{a-of, b-of, written-shape}
-use Rattle.checker.specs.Reading.{walkOf, binds, within}
-use Rattle.checker.proofs.WalkLaws.{member-has, member-lacks}
-use Rattle.guide.specs.Guide.{guided, aHolds, bHolds, Guides}
-use Rattle.writer.specs.Steps.{entrySteps, operandSteps, walkSteps, ruleSteps, ChosenBelow}
+use Rattle.hand.proofs.SetupLaws.{zeros}
+use Rattle.verdict.specs.Evaluation.{Collects}
+use Rattle.written.specs.Choice.{lowestNext, nearest}
+use Rattle.written.specs.Written.{through, no-entry}
+use Rattle.guide.specs.Sides.{truthOn, heldOn}
+use Rattle.guide.specs.Toward.{Filled}
+use Rattle.checker.specs.Reading.{walkOf}
+use Rattle.writer.specs.Wrote.{Wrote}
+use Rattle.writer.specs.Steps.{entrySteps, boundEntry, aOf, bOf, startOf, oneSteps, twoSteps, afSteps, InHand, Noted, AfAt}
+use Rattle.writer.proofs.KindLaws.{eg-start, ar-start, eu-start}
+use Rattle.writer.proofs.WriterLaws.{walk-on, walk-none, Going}
+use Rattle.writer.proofs.AfLaws.{af-now, af-later}
+use Rattle.writer.proofs.AlongLaws.{eg-merge, eg-on-at, ar-merge, ar-release, ar-on-at, eu-now, eu-later}
 
--- ---- operands
+-- ---- what the guide says
 
--- On either side false is written as the byte 0.
-false-steps : (G : Graph) (side : ℕ) (env : Env) → written G (sided side falsity) env ≡ 0 ∷ []
-false-steps G zero env = refl
-false-steps G (suc n) env = refl
+module _ (image table : List ℕ) (side : ℕ) (env : Slots) {o o′ : ℕ} (o-is : o′ ≡ o) where
+  -- Whether an operand holds,
+  pub told-true : {b : Bool} → b ≡ truthOn image table side o′ env → b ≡ true → T (truthOn image table side o env)
+  told-true e t = subst T (sym t ∙ e ∙ ap (λ (i : ℕ). truthOn image table side i env) o-is) tt
 
-module _ (image table : List ℕ) (side e o : ℕ) (env : Env) where
-  -- An operand that has a lower number is the entry of its number,
-  pub lower-operand : o < e → entrySteps image table side o env ≡ operandSteps image table side e o env
-  unfolding entrySteps operandSteps
-  lower-operand h = ap (λ (f : Formula). written (graphOf image) (sided side f) env) (sym (tree-at image table e o h))
+  pub told-false : {b : Bool} → b ≡ truthOn image table side o′ env → b ≡ false → T (truthOn image table side o env) → ⊥
+  told-false e f u = subst T (ap (λ (i : ℕ). truthOn image table side i env) (sym o-is) ∙ sym e ∙ f) u
 
-  -- and any other counts as false.
-  pub other-operand : e ≤ o → 0 ∷ [] ≡ operandSteps image table side e o env
-  unfolding operandSteps
-  other-operand h =
-      sym (ap (λ (f : Formula). written (graphOf image) (sided side f) env) (tree-past image table e o h) ∙ false-steps (graphOf image) side env)
+  module _ {v v′ : ℕ} (v-is : v′ ≡ v) where
+    held-is : heldOn image table side o′ env v′ ≡ boundEntry image table side o v (envOf env) .holds
+    held-is = ap₂ (λ (i j : ℕ). heldOn image table side i env j) o-is v-is
 
--- ---- one of two rules
+    -- the stages at which it does,
+    pub collects-of : {n n′ r : ℕ} → n′ ≡ n → Collects n′ (heldOn image table side o′ env v′) r
+        → Collects n (boundEntry image table side o v (envOf env) .holds) r
+    collects-of {n′ = n′} {r = r} n-is c =
+        subst (λ (k : ℕ). Collects k (boundEntry image table side o v (envOf env) .holds) r) n-is (subst (λ (x : Stages). Collects n′ x r) held-is c)
 
-either : (P : Rule → Type 0) (b : Bool) {q p : Rule} → P q → P p → P (ifSo b q p)
-either P true x y = x
-either P false x y = y
+    -- the successor that EX chooses,
+    pub choice-of : {s s′ c : ℕ} → s′ ≡ s → c ≡ lowestNext (graphOf image) (heldOn image table side o′ env v′) s′
+        → c ≡ lowestNext (graphOf image) (boundEntry image table side o v (envOf env) .holds) s
+    choice-of s-is e = e ∙ ap₂ (lowestNext (graphOf image)) held-is s-is
 
--- ---- the formula of a record, kind by kind
+    -- and that of EG.
+    pub leads-of : {n n′ s : ℕ} {before after : List ℕ} → n′ ≡ n → s < n
+        → Filled n′ (lowestNext (graphOf image) (eg (graphOf image) (heldOn image table side o′ env v′))) before after
+        → getD after s 0 ≡ lowestNext (graphOf image) (eg (graphOf image) (boundEntry image table side o v (envOf env) .holds)) s
+    leads-of {s = s} n-is h f = f .each s (omega arith) ∙ ap (λ (x : Stages). lowestNext (graphOf image) (eg (graphOf image) x) s) held-is
 
-module _ (G : Graph) (image : List ℕ) (tree : ℕ → Formula) (r : Record) (env : Env) where
-  abbrev M : Kind → Formula
-  M k = madeAs k image tree r
+    -- And that of EU.
+    pub nearest-of : {p p′ y y′ n n′ s : ℕ} {before after : List ℕ} → p′ ≡ p → y′ ≡ y → n′ ≡ n → s < n
+        → Filled n′ (nearest (graphOf image) (heldOn image table side o′ env v′) (heldOn image table side p′ env y′)) before after
+        → getD after s 0 ≡ nearest (graphOf image) (boundEntry image table side o v (envOf env) .holds) (boundEntry image table side p y (envOf env) .holds) s
+    nearest-of {s = s} p-is y-is n-is h f =
+        f .each s (omega arith)
+        ∙ ap₂ (λ (x z : Stages). nearest (graphOf image) x z s) held-is (ap₂ (λ (i j : ℕ). heldOn image table side i env j) p-is y-is)
 
-  -- Where its walk starts.
-  start-kind : (k : Kind) → shape G (M k) env .stage ≡ startAs (sortOf k) (value env (termOf (r .t)))
-  start-kind K.True = refl
-  start-kind K.False = refl
-  start-kind K.Is = refl
-  start-kind K.IsNot = refl
-  start-kind K.And = refl
-  start-kind K.Or = refl
-  start-kind K.AX = refl
-  start-kind K.EX = refl
-  start-kind K.AF = refl
-  start-kind K.EG = refl
-  start-kind K.AR = refl
-  start-kind K.EU = refl
-  start-kind K.NoKind = refl
+-- ---- AF
 
-  -- What follows a rule's code: a and b with x and y bound or not, and the walk with s added.
-  abbrev follows : (ℕ → List ℕ) → ℕ → Rule → List ℕ
-  follows again s q =
-      row q .chosen
-      ++ premises G
-      (parts (λ t. written G (tree (r .a)) (within (binds (row q .kind)) env (r .x) t))
-      (λ t. written G (tree (r .b)) (within (binds (row q .kind)) env (r .y) t)) again)
-      s (body q .premises)
+module _ {image table next entries : List ℕ} {side e : ℕ} {env : Slots} {stop s left : ℕ} {lens : List ℕ}
+    (at : AfAt image table next entries side e env stop s left lens) where
+  -- Now.
+  pub af-now-steps : T (aOf image table side e (envOf env) .holds s)
+      → (row Rule.AfNow .code ∷ []) ++ aOf image table side e (envOf env) .steps s ≡ afSteps image table side e (envOf env) s
+  unfolding oneSteps
+  af-now-steps t =
+      af-now (at .hand .holding .setup .readable) (aOf image table side e (envOf env)) (no-entry (graphOf image)) (stagesOf image) empty s t
 
-  module _ (fuel : ℕ) (w : Walk) (s : ℕ) where
-    -- A step by the rule q of a formula of kind k.
-    abbrev Steps : Kind → Rule → Type 0
-    Steps k q =
-        let again : ℕ → List ℕ = λ t. writtenOn G (M k) env fuel (also w s) t in
-        begin q ++ premises G (parts (a-of G (M k) env .steps) (b-of G (M k) env .steps) again) s (body q .premises)
-        ≡ (row q .code ∷ []) ++ follows again s q
+  -- At each successor.
+  pub af-later-steps : (T (aOf image table side e (envOf env) .holds s) → ⊥)
+      → (row Rule.AfLater .code ∷ []) ++ through (stagesOf image) (graphOf image .next s) (afSteps image table side e (envOf env))
+      ≡ afSteps image table side e (envOf env) s
+  unfolding oneSteps
+  af-later-steps f =
+      af-later (at .hand .holding .setup .readable) (aOf image table side e (envOf env)) (no-entry (graphOf image)) left s
+      (omega (arith, at .fuel)) (at .lasts) f
 
-    -- The rule that is chosen for the kind is one of its rules.
-    step-kind : (k : Kind) → Steps k (choice G (shape G (M k) env .kind) (aHolds G (M k) env) (bHolds G (M k) env) w s)
-    step-kind K.True = refl
-    step-kind K.False = refl
-    step-kind K.Is = refl
-    step-kind K.IsNot = refl
-    step-kind K.And = refl
-    step-kind K.Or = either (Steps K.Or) (aHolds G (M K.Or) env s) refl refl
-    step-kind K.AX = refl
-    step-kind K.EX = refl
-    step-kind K.AF = either (Steps K.AF) (aHolds G (M K.AF) env s) refl refl
-    step-kind K.EG = either (Steps K.EG) (w s) refl refl
-    step-kind K.AR = either (Steps K.AR) (w s) refl (either (Steps K.AR) (aHolds G (M K.AR) env s) refl refl)
-    step-kind K.EU = either (Steps K.EU) (bHolds G (M K.EU) env s) refl refl
-    step-kind K.NoKind = refl
+  -- The length that is known says how far the steps go, where they are only counted: past the end, or not.
+  module _ {w : Bool} {known : ℕ} (p : ℕ) (l : List ℕ) (counts : w ≡ false) (some : 0 < known) (is-known : known
+      ≡ getD lens s 0) (in-buffer : p ≤ length l) where
+    long : known ≡ length (afSteps image table side e (envOf env) s)
+    long = is-known ∙ at .noted .each s (omega (arith, is-known))
 
--- The rule that is chosen for a formula at the stage s of a walk; and one step of it, by that rule.
-abbrev chosenRule : Graph → Formula → Env → Walk → ℕ → Rule
-chosenRule G f e w s = choice G (shape G f e .kind) (aHolds G f e) (bHolds G f e) w s
+    pub known-past : length l - p < known → Wrote w (afSteps image table side e (envOf env) s) p l l (length l + 1)
+    known-past h = rw counts (record { goes = omega (arith, long); leaves = refl })
 
-shape-step : (G : Graph) (f : Formula) (e : Env) (left : ℕ) (w : Walk) (s : ℕ)
-    → writtenOn G f e (suc left) w s
-    ≡ begin (chosenRule G f e w s)
-    ++ premises G (parts (a-of G f e .steps) (b-of G f e .steps) (λ t. writtenOn G f e left (also w s) t)) s (body (chosenRule G f e w s) .premises)
-shape-step G f e left w s =
-    ap (λ (on : ℕ → Walk → ℕ → List ℕ). on (suc left) w s) (written-shape G f e)
-    ∙ ap (λ (on : ℕ → Walk → ℕ → List ℕ). begin (chosenRule G f e w s)
-    ++ premises G (parts (a-of G f e .steps) (b-of G f e .steps) (λ t. on left (also w s) t)) s (body (chosenRule G f e w s) .premises))
-    (sym (written-shape G f e))
+    pub known-fits : known ≤ length l - p → Wrote w (afSteps image table side e (envOf env) s) p l l (p + known)
+    known-fits h = rw counts (record { goes = omega (arith, long); leaves = refl })
 
--- ---- the formula of an entry
+-- No length is known yet.
+pub noted-new : (image table : List ℕ) (side e : ℕ) (env : Slots) → Noted image table side e (envOf env) (replicate width 0)
+unfolding held
+noted-new image table side e env = record { each = λ s h. absurd (omega (arith, zeros width s)) }
 
--- A formula's walk starts at a stage.
-shape-below : (G : Graph) (n : ℕ) (f : Formula) (e : Env) → Below n f → Stand n e → shape G f e .stage < n
-shape-below G n truth e b d = omega (arith, d 0)
-shape-below G n falsity e b d = omega (arith, d 0)
-shape-below G n (is q) e b d = omega (arith, d 0)
-shape-below G n (isNot q) e b d = omega (arith, d 0)
-shape-below G n (and f g) e b d = omega (arith, d 0)
-shape-below G n (or f g) e b d = omega (arith, d 0)
-shape-below G n (AX x f t) e b d = term-stands d t (b .0)
-shape-below G n (EX x f t) e b d = term-stands d t (b .0)
-shape-below G n (AF x f t) e b d = term-stands d t (b .0)
-shape-below G n (EG x f t) e b d = term-stands d t (b .0)
-shape-below G n (AR x f y g t) e b d = term-stands d t (b .0)
-shape-below G n (EU x f y g t) e b d = term-stands d t (b .0)
+-- A length that the buffer has room for is noted, where there is room for it.
+pub noted-more : (image table : List ℕ) (side e : ℕ) (env : Slots) {lens : List ℕ} {w : Bool} (s : ℕ) {p q : ℕ} {l k : List ℕ}
+    → Noted image table side e (envOf env) lens → Wrote w (afSteps image table side e (envOf env) s) p l k q → q ≤ length l
+    → Noted image table side e (envOf env) (set lens s (q - p))
+noted-more image table side e env {lens} s {p} {q} n wrote fits =
+    ⊎-elim (λ h. record {
+      each = λ t i. ⊎-elim
+          (λ (d : t ≡ s). subst (λ (u : ℕ). getD (set lens s (q - p)) u 0 ≡ length (afSteps image table side e (envOf env) u)) (sym d)
+          (getD-set-same lens s (q - p) 0 h ∙ omega (arith, wrote .goes)))
+          (λ d. getD-set-other lens s t (q - p) 0 d ∙ n .each t (subst (λ (z : ℕ). 0 < z) (getD-set-other lens s t (q - p) 0 d) i)) (same? t s);
+    }) (λ h. rw (set-out lens s (q - p) h) n) (side? s (length lens))
 
-module _ (image table : List ℕ) (side e : ℕ) {r : Record} (r-is : r ≡ recordAt table e) (env : Env) where
-  abbrev here : Formula
-  here = sided side (treeOf image table e)
+-- ---- EG
 
-  abbrev tree : ℕ → Formula
-  tree o = sided side (nth (trees image table e) o)
+-- A walk of EG that holds.
+pub record EgGoing (image table : List ℕ) (side e : ℕ) (env : Slots) (w : Bool) (place : ℕ) (before : List ℕ) (walk s left : ℕ) (out : List ℕ) (here : ℕ)
+    : Type 0 where
+  pub going : Going w (entrySteps image table side e (envOf env)) (oneSteps image table side Kind.EG e (envOf env) left (walkOf walk) s) place before out here
+  pub below : s < stagesOf image
+  pub holds : T (eg (graphOf image) (aOf image table side e (envOf env) .holds) s)
 
-  abbrev kind : Kind
-  kind = kindOn side (kindOf (r .kind))
+module _ {image table next entries : List ℕ} {side e : ℕ} {env : Slots} where
+  -- At the start.
+  pub eg-begins : {n walk s : ℕ} → InHand image table next entries side e env K.EG → n ≡ stagesOf image → walk ≡ 0
+      → s ≡ startOf image table side e (envOf env)
+      → oneSteps image table side Kind.EG e (envOf env) (n + 1) (walkOf walk) s ≡ entrySteps image table side e (envOf env)
+  eg-begins {n} {walk} {s} h n-is walk-is s-is =
+      ap₂ (λ (m : ℕ) (w : Walk). oneSteps image table side Kind.EG e (envOf env) m w s) (add-one n ∙ ap suc n-is) (walk-none walk-is)
+      ∙ ap (λ (t : ℕ). oneSteps image table side Kind.EG e (envOf env) (suc (stagesOf image)) empty t) s-is ∙ eg-start h
 
-  formula-is : here ≡ madeAs kind image tree r
-  formula-is = sided-entry image table side e r-is
+-- There is fuel for a step.
+fuel : {left : ℕ} → 0 < left → suc (left - 1) ≡ left
+fuel some = omega arith
 
-  start-is : startIn r env ≡ shape (graphOf image) here env .stage
-  start-is =
-      sym (
-      ap (λ (f : Formula). shape (graphOf image) f env .stage) formula-is
-      ∙ start-kind (graphOf image) image tree r env kind
-      ∙ start-side side (kindOf (r .kind)) (value env (termOf (r .t)))
-      )
+-- A step of it, and of AR.
+module _ (image table : List ℕ) (side e : ℕ) (env : Slots) (walk s left : ℕ) (some : 0 < left) where
+  pub eg-merges : On (walkOf walk) s → row Rule.EgMerge .code ∷ [] ≡ oneSteps image table side Kind.EG e (envOf env) left (walkOf walk) s
+  unfolding oneSteps
+  eg-merges o =
+      eg-merge (graphOf image) (aOf image table side e (envOf env)) (no-entry (graphOf image)) (left - 1) (walkOf walk) s o
+      ∙ ap (λ (m : ℕ). oneSteps image table side Kind.EG e (envOf env) m (walkOf walk) s) (fuel some)
 
-  -- From the start of its walk an entry is written as along an empty walk, at its stage.
-  pub from-start : {n left set s : ℕ} → stagesOf image ≡ n → left ≡ n + 1 → set ≡ 0 → s ≡ startIn r env
-      → walkSteps image table side e env left (walkOf set) s ≡ entrySteps image table side e env
-  unfolding entrySteps walkSteps
-  from-start {n} {left} {set} {s} n-is left-is set-is s-is =
-      ap₂ (λ (fuel : ℕ) (w : Walk). writtenOn (graphOf image) here env fuel w s) fuel-is walk-is
-      ∙ ap (λ (t : ℕ). writtenOn (graphOf image) here env (suc (stagesOf image)) empty t) (s-is ∙ start-is)
-    where
-      fuel-is : left ≡ suc (stagesOf image)
-      fuel-is = left-is ∙ add-one n ∙ ap suc (sym n-is)
+  pub eg-goes : {c longer : ℕ} → s < width → (On (walkOf walk) s → ⊥) → longer ≡ bitOr walk (single s)
+      → c ≡ lowestNext (graphOf image) (eg (graphOf image) (aOf image table side e (envOf env) .holds)) s
+      → ((row (Rule.EgOn c) .code ∷ []) ++ ((c ∷ []) ++ aOf image table side e (envOf env) .steps s))
+      ++ oneSteps image table side Kind.EG e (envOf env) (left - 1) (walkOf longer) c
+      ≡ oneSteps image table side Kind.EG e (envOf env) left (walkOf walk) s
+  unfolding oneSteps
+  eg-goes {c} {longer} room off longer-is c-is =
+      append-assoc (row (Rule.EgOn c) .code ∷ []) ((c ∷ []) ++ aOf image table side e (envOf env) .steps s) _
+      ∙ ap (λ (w : Walk). (row (Rule.EgOn c) .code ∷ []) ++ ((c ∷ []) ++ (aOf image table side e (envOf env) .steps s
+      ++ oneSteps image table side Kind.EG e (envOf env) (left - 1) w c))) (walk-on walk s room longer-is)
+      ∙ eg-on-at (graphOf image) (aOf image table side e (envOf env)) (no-entry (graphOf image)) (left - 1) (walkOf walk) s c off c-is
+      ∙ ap (λ (m : ℕ). oneSteps image table side Kind.EG e (envOf env) m (walkOf walk) s) (fuel some)
 
-      walk-is : walkOf set ≡ empty
-      walk-is = fun-ext (λ t. ne-eqb (bit set t) 1 (λ h. omega (arith, ap (λ (z : ℕ). bit z t) set-is, bit-zero t)))
+  -- ---- AR
 
-  -- Without fuel nothing is written,
-  pub no-fuel : (w : Walk) (s : ℕ) → walkSteps image table side e env 0 w s ≡ []
-  unfolding walkSteps
-  no-fuel w s = ap (λ (f : ℕ → Walk → ℕ → List ℕ). f 0 w s) (written-shape (graphOf image) here env)
+  pub ar-merges : On (walkOf walk) s → row Rule.ArMerge .code ∷ [] ≡ twoSteps image table side Kind.AR e (envOf env) left (walkOf walk) s
+  unfolding twoSteps
+  ar-merges o =
+      ar-merge (graphOf image) (aOf image table side e (envOf env)) (bOf image table side e (envOf env)) (left - 1) (walkOf walk) s o
+      ∙ ap (λ (m : ℕ). twoSteps image table side Kind.AR e (envOf env) m (walkOf walk) s) (fuel some)
 
-  -- and with it the code of the rule that is chosen, and what follows.
-  pub one-step : (left : ℕ) (w : Walk) (s : ℕ) {q : Rule} → q ≡ chosenRule (graphOf image) here env w s
-      → (row q .code ∷ []) ++ ruleSteps image table side e r env left w s q ≡ walkSteps image table side e env (suc left) w s
-  unfolding operandSteps walkSteps
-  one-step left w s {q} q-is =
-      sym (
-      subst
-      (λ (f : Formula). (p : Rule) → p ≡ chosenRule (graphOf image) f env w s → writtenOn (graphOf image) f env (suc left) w s
-      ≡ (row p .code ∷ []) ++ follows (graphOf image) image tree r env (λ t. writtenOn (graphOf image) f env left (also w s) t) s p)
-      (sym formula-is) at-kind q q-is
-      )
-    where
-      at-kind : (p : Rule) → p ≡ chosenRule (graphOf image) (madeAs kind image tree r) env w s
-          → writtenOn (graphOf image) (madeAs kind image tree r) env (suc left) w s
-          ≡ (row p .code ∷ [])
-          ++ follows (graphOf image) image tree r env (λ t. writtenOn (graphOf image) (madeAs kind image tree r) env left (also w s) t) s p
-      at-kind p p-is =
-          shape-step (graphOf image) (madeAs kind image tree r) env left w s
-          ∙ step-kind (graphOf image) image tree r env left w s kind
-          ∙ ap (λ (p : Rule). (row p .code ∷ [])
-          ++ follows (graphOf image) image tree r env (λ t. writtenOn (graphOf image) (madeAs kind image tree r) env left (also w s) t) s p) (sym p-is)
+  pub ar-releases : (On (walkOf walk) s → ⊥) → T (aOf image table side e (envOf env) .holds s)
+      → (row Rule.ArRelease .code ∷ []) ++ (aOf image table side e (envOf env) .steps s ++ bOf image table side e (envOf env) .steps s)
+      ≡ twoSteps image table side Kind.AR e (envOf env) left (walkOf walk) s
+  unfolding twoSteps
+  ar-releases off t =
+      ar-release (graphOf image) (aOf image table side e (envOf env)) (bOf image table side e (envOf env)) (left - 1) (walkOf walk) s off t
+      ∙ ap (λ (m : ℕ). twoSteps image table side Kind.AR e (envOf env) m (walkOf walk) s) (fuel some)
 
--- A walk starts at a stage.
-pub start-below : {image table next : List ℕ} {n e : ℕ} {env : Slots} {r : Record} {s : ℕ} → Ready image table next n e env → r ≡ recordAt table e
-    → s ≡ startIn r (envOf env) → s < n
-start-below {image} {table} {next} {n} {e} {env} ready r-is s-is =
-    let stages : stagesOf image ≡ n = ready .row .stages in
-    let below = ruled-below image table (entriesOf table) (omega (arith, ready .row .room)) (ready .ruled) e (ready .entry) in
-    omega (
-      arith,
-      s-is,
-      start-is image table 0 e r-is (envOf env),
-      shape-below (graphOf image) n (treeOf image table e) (envOf env) (subst (λ (k : ℕ). Below k (treeOf image table e)) stages below) (ready .stand),
-    )
+  pub ar-goes : {longer : ℕ} → s < width → (On (walkOf walk) s → ⊥) → longer ≡ bitOr walk (single s)
+      → (T (aOf image table side e (envOf env) .holds s) → ⊥)
+      → (row Rule.ArOn .code ∷ []) ++ (bOf image table side e (envOf env) .steps s
+      ++ through (stagesOf image) (graphOf image .next s) (twoSteps image table side Kind.AR e (envOf env) (left - 1) (walkOf longer)))
+      ≡ twoSteps image table side Kind.AR e (envOf env) left (walkOf walk) s
+  unfolding twoSteps
+  ar-goes {longer} room off longer-is f =
+      ap (λ (w : Walk). (row Rule.ArOn .code ∷ []) ++ (bOf image table side e (envOf env) .steps s
+      ++ through (stagesOf image) (graphOf image .next s) (twoSteps image table side Kind.AR e (envOf env) (left - 1) w))) (walk-on walk s room longer-is)
+      ∙ ar-on-at (graphOf image) (aOf image table side e (envOf env)) (bOf image table side e (envOf env)) (left - 1) (walkOf walk) s off f
+      ∙ ap (λ (m : ℕ). twoSteps image table side Kind.AR e (envOf env) m (walkOf walk) s) (fuel some)
 
--- ---- walks
+-- ---- EU
 
--- A walk that is held as a set, with a stage added for which there is room.
-pub walk-on : (set s : ℕ) {longer : ℕ} → s < width → longer ≡ bitOr set (single s) → walkOf longer ≡ also (walkOf set) s
-walk-on set s {longer} room is-longer = fun-ext (λ t. ⊎-elim (same t) (other t) (same? t s))
-  where
-    with-is : (t : ℕ) → Has longer t → Has (bitOr set (single s)) t
-    with-is t h = subst (λ (z : ℕ). Has z t) is-longer h
+module _ (image table : List ℕ) (side e : ℕ) (env : Slots) (s left : ℕ) (some : 0 < left) where
+  pub eu-stops : (w : Walk) → T (bOf image table side e (envOf env) .holds s)
+      → (row Rule.EuNow .code ∷ []) ++ bOf image table side e (envOf env) .steps s ≡ twoSteps image table side Kind.EU e (envOf env) left w s
+  unfolding twoSteps
+  eu-stops w t =
+      eu-now (graphOf image) (aOf image table side e (envOf env)) (bOf image table side e (envOf env)) (left - 1) w s t
+      ∙ ap (λ (m : ℕ). twoSteps image table side Kind.EU e (envOf env) m w s) (fuel some)
 
-    is-with : (t : ℕ) → Has (bitOr set (single s)) t → Has longer t
-    is-with t h = subst (λ (z : ℕ). Has z t) (sym is-longer) h
+  pub eu-goes : {c : ℕ} (w : Walk) → (T (bOf image table side e (envOf env) .holds s) → ⊥)
+      → c ≡ nearest (graphOf image) (aOf image table side e (envOf env) .holds) (bOf image table side e (envOf env) .holds) s
+      → ((row (Rule.EuLater c) .code ∷ []) ++ ((c ∷ []) ++ aOf image table side e (envOf env) .steps s))
+      ++ twoSteps image table side Kind.EU e (envOf env) (left - 1) (also w s) c
+      ≡ twoSteps image table side Kind.EU e (envOf env) left w s
+  unfolding twoSteps
+  eu-goes {c} w f c-is =
+      append-assoc (row (Rule.EuLater c) .code ∷ []) ((c ∷ []) ++ aOf image table side e (envOf env) .steps s) _
+      ∙ eu-later (graphOf image) (aOf image table side e (envOf env)) (bOf image table side e (envOf env)) (left - 1) w s c f c-is
+      ∙ ap (λ (m : ℕ). twoSteps image table side Kind.EU e (envOf env) m w s) (fuel some)
 
-    same : (t : ℕ) → t ≡ s → member longer t ≡ (eqb t s || member set t)
-    same t e = member-has longer t (is-with t (has-with set s t .1 (inr (e, room)))) ∙ ap (λ (b : Bool). b || member set t) (sym (eq-eqb t s e))
+-- Without fuel nothing remains.
+pub one-ends : (image table : List ℕ) (side e : ℕ) (env : Slots) (k : Kind) {left : ℕ} (w : Walk) (s : ℕ) → left ≡ 0
+    → oneSteps image table side k e (envOf env) left w s ≡ []
+unfolding oneSteps
+one-ends image table side e env k w s z = ap (λ (m : ℕ). oneSteps image table side k e (envOf env) m w s) z
 
-    other : (t : ℕ) → t ≢ s → member longer t ≡ (eqb t s || member set t)
-    other t n =
-        ⊎-elim
-        (λ h. member-has longer t (is-with t (has-with set s t .1 (inl h))) ∙ sym (member-has set t h))
-        (λ f. member-lacks longer t (λ h. ⊎-elim f (λ g. n (g .0)) (has-with set s t .0 (with-is t h))) ∙ sym (member-lacks set t f))
-        (has? set t)
-        ∙ ap (λ (b : Bool). b || member set t) (sym (ne-eqb t s n))
+pub two-ends : (image table : List ℕ) (side e : ℕ) (env : Slots) (k : Kind) {left : ℕ} (w : Walk) (s : ℕ) → left ≡ 0
+    → twoSteps image table side k e (envOf env) left w s ≡ []
+unfolding twoSteps
+two-ends image table side e env k w s z = ap (λ (m : ℕ). twoSteps image table side k e (envOf env) m w s) z
 
--- ---- the guide
+-- A walk of EU that holds, wherever it has been.
+pub record EuGoing (image table : List ℕ) (side e : ℕ) (env : Slots) (w : Bool) (place : ℕ) (before : List ℕ) (s left : ℕ) (out : List ℕ) (here : ℕ)
+    : Type 0 where
+  pub walk : Walk
+  pub going : Going w (entrySteps image table side e (envOf env)) (twoSteps image table side Kind.EU e (envOf env) left walk s) place before out here
+  pub below : s < stagesOf image
+  pub holds : T (eu (graphOf image) (aOf image table side e (envOf env) .holds) (bOf image table side e (envOf env) .holds) s)
 
--- The stage that a rule chose is the one that the guide leads to.
-guided-below : (n c : ℕ) → c < n → (k : Kind) (stop on : Bool) → ChosenBelow n (row (guided k stop c on) .chosen)
-guided-below n c h K.True stop on = tt
-guided-below n c h K.False stop on = tt
-guided-below n c h K.Is stop on = tt
-guided-below n c h K.IsNot stop on = tt
-guided-below n c h K.And stop on = tt
-guided-below n c h K.Or stop on = either (λ (q : Rule). ChosenBelow n (row q .chosen)) stop tt tt
-guided-below n c h K.AX stop on = tt
-guided-below n c h K.EX stop on = (h, tt)
-guided-below n c h K.AF stop on = either (λ (q : Rule). ChosenBelow n (row q .chosen)) stop tt tt
-guided-below n c h K.EG stop on = either (λ (q : Rule). ChosenBelow n (row q .chosen)) on tt (h, tt)
-guided-below n c h K.AR stop on =
-    either (λ (q : Rule). ChosenBelow n (row q .chosen)) on tt (either (λ (q : Rule). ChosenBelow n (row q .chosen)) stop tt tt)
-guided-below n c h K.EU stop on = either (λ (q : Rule). ChosenBelow n (row q .chosen)) stop tt (h, tt)
-guided-below n c h K.NoKind stop on = tt
+module _ {image table next entries : List ℕ} {side e : ℕ} {env : Slots} where
+  -- AR and EU at the start.
+  pub ar-begins : {n walk s : ℕ} → InHand image table next entries side e env K.AR → n ≡ stagesOf image → walk ≡ 0
+      → s ≡ startOf image table side e (envOf env)
+      → twoSteps image table side Kind.AR e (envOf env) (n + 1) (walkOf walk) s ≡ entrySteps image table side e (envOf env)
+  ar-begins {n} {walk} {s} h n-is walk-is s-is =
+      ap₂ (λ (m : ℕ) (w : Walk). twoSteps image table side Kind.AR e (envOf env) m w s) (add-one n ∙ ap suc n-is) (walk-none walk-is)
+      ∙ ap (λ (t : ℕ). twoSteps image table side Kind.AR e (envOf env) (suc (stagesOf image)) empty t) s-is ∙ ar-start h
 
--- A guide leads to stages of the graph, and the rule that it gives is the chosen one.
-module _ {G : Graph} {f : Formula} {e : Env} {k : Kind} {stop : ℕ} {toward : List ℕ} (guides : Guides G f e k stop toward) (set s n : ℕ)
-    (n-is : G .stages ≡ n) (h : s < n) {q : Rule} {j : Kind} (j-is : j ≡ k) (q-is : q ≡ guided j (member stop s) (getD toward s 0) (member set s)) where
-  as-guided : q ≡ guided k (member stop s) (getD toward s 0) (member set s)
-  as-guided = q-is ∙ ap (λ (j : Kind). guided j (member stop s) (getD toward s 0) (member set s)) j-is
-
-  pub chosen-below : ChosenBelow n (row q .chosen)
-  chosen-below =
-      subst (λ (q : Rule). ChosenBelow n (row q .chosen)) (sym as-guided)
-      (guided-below n (getD toward s 0) (omega (arith, guides .below s (omega arith))) k (member stop s) (member set s))
-
-  pub rule-chosen : q ≡ chosenRule G f e (walkOf set) s
-  rule-chosen = as-guided ∙ guides .right (walkOf set) s (omega arith)
+  pub eu-begins : {n s : ℕ} → InHand image table next entries side e env K.EU → n ≡ stagesOf image → s ≡ startOf image table side e (envOf env)
+      → twoSteps image table side Kind.EU e (envOf env) (n + 1) empty s ≡ entrySteps image table side e (envOf env)
+  eu-begins {n} h n-is s-is =
+      ap₂ (λ (m t : ℕ). twoSteps image table side Kind.EU e (envOf env) m empty t) (add-one n ∙ ap suc n-is) s-is ∙ eu-start h

@@ -1,110 +1,123 @@
--- What each writer of steps writes, in the words of the crate `written` (`written`, `writtenOn`, `premises`): the steps for the formula that an entry of
--- the table has on a side, with the walk held as a set, as the checker reads them (`walkOf`, `binds`, `within` are its own). And what a writer goes by.
--- Nothing that document 01 states is defined here.
-use Prim.Native.Nat.{ℕ, _<_}
+-- What each writer of steps writes, in the words of the crate `written` (`written`, `along`): the steps for the formula that an entry of the table has on a
+-- side, with the walk held as a set, as the checker reads them (`walkOf` is its own). And what a writer goes by. Nothing that document 01 states is
+-- defined here.
+use Prim.Native.Nat.{ℕ, suc, _+_, _≤_, _<_}
 use mathlib.Core.Path.{_≡_}
-use mathlib.Core.Bool.{Bool}
-use mathlib.Core.List.{List, [], _∷_, _++_}
+use mathlib.Core.List.{List, _++_}
 use mathlib.Core.Logic.{_↔_}
-use Rattle.model.specs.Formula.{Env, bind}
-use Rattle.logic.specs.Rules.{Walk, also}
+use lib.Dec.{T}
+use lib.ListN.{length, getD}
+use Rattle.model.specs.Graph.{Graph, Readable}
+use Rattle.model.specs.Formula.{Env, bind, value}
+use Rattle.logic.specs.Rules.{Walk, empty}
+use Rattle.logic.specs.Test.{Stages, Stand, test, iter, af-round, ar}
 use Rattle.sets.specs.Member.{Has}
-use Rattle.sets.specs.Number.{number}
 use Rattle.sets.specs.Row.{held}
-use Rattle.format.specs.Image.{graphOf}
-use Rattle.format.specs.Table.{recordAt, kindOf, nth, trees, treeOf}
-use Rattle.format.specs.declared.record.Record.{Record}
-use Rattle.rules.specs.Table.{row, body, Part}
-use Rattle.rules.specs.declared.Rule.{Rule}
+use Rattle.modal.specs.Row.{Row}
+use Rattle.format.specs.Image.{stagesOf, graphOf}
+use Rattle.format.specs.Table.{entriesOf, recordAt, kindOf, termOf, Ruled, treeOf}
+use Rattle.format.specs.declared.record.Kind.{Kind}
+use Rattle.format.specs.declared.record.Kind.the-variants as K
+use Rattle.rules.specs.Kind.{Kind as RuleKind}
 use Rattle.hand.specs.Environment.{envOf}
 use Rattle.hand.specs.Side.{sided, kindOn}
-use Rattle.verdict.specs.Evaluation.{Ready}
-use Rattle.written.specs.Written.{through, parts, premises, written, writtenOn}
-use Rattle.guide.specs.Guide.{Guides}
+use Rattle.hand.specs.Hand.{SuccessorsOf}
+use Rattle.hand.specs.Setup.{mostEntries, entryOf, entryAt}
+use Rattle.hand.specs.declared.env.Env.{Env as Slots}
+use Rattle.verdict.specs.Evaluation.{Collects}
+use Rattle.written.specs.Written.{Entry, along, no-entry, written}
+use Rattle.guide.specs.Sides.{truthOn}
 use Rattle.checker.specs.Header.{headerOf}
-use Rattle.checker.specs.Reading.{walkOf, binds, within}
-use Rattle.writer.specs.declared.steps.Run.{Run}
-use Rattle.writer.specs.declared.steps.InHand.{InHand}
-use Rattle.writer.specs.declared.steps.Along.{Along}
 
 module _ (image table : List ℕ) (side : ℕ) where
-  -- The steps of an entry's formula, and of that of an operand of entry e.
+  -- The steps of an entry's formula.
   unfoldable pub entrySteps : ℕ → Env → List ℕ
   entrySteps e env = written (graphOf image) (sided side (treeOf image table e)) env
-
-  unfoldable pub operandSteps : ℕ → ℕ → Env → List ℕ
-  operandSteps e o env = written (graphOf image) (sided side (nth (trees image table e) o)) env
 
   -- A whole certificate of the side: its header, and the steps of the goal's entry.
   abbrev pub wholeBytes : ℕ → ℕ → Env → List ℕ
   wholeBytes goal start env = headerOf side goal start ++ entrySteps goal env
 
-  -- The steps of an entry's formula with fuel, at a stage of its walk.
-  unfoldable pub walkSteps : ℕ → Env → ℕ → Walk → ℕ → List ℕ
-  walkSteps e env left w s = writtenOn (graphOf image) (sided side (treeOf image table e)) env left w s
+  -- An entry whose variable v stands at a stage: where it holds, and its steps.
+  abbrev pub boundEntry : ℕ → ℕ → Env → Entry
+  boundEntry o v env = record {
+    holds = λ s. test (graphOf image) (sided side (treeOf image table o)) (bind env v s);
+    steps = λ s. entrySteps o (bind env v s);
+  }
 
-  -- What follows a rule's code, for a record of entry e at the stage s of a walk: its chosen stage where it has one, and the steps of its premises.
-  abbrev pub partsOf : ℕ → Record → Env → ℕ → Walk → ℕ → Bool → Part → ℕ → List ℕ
-  partsOf e r env left w s bound =
-      parts (λ t. operandSteps e (r .a) (within bound env (r .x) t)) (λ t. operandSteps e (r .b) (within bound env (r .y) t))
-      (λ t. walkSteps e env left (also w s) t)
+  -- The a and the b of an entry, with x and y at a stage.
+  abbrev pub aOf : ℕ → Env → Entry
+  aOf e env = boundEntry (recordAt table e .a) (recordAt table e .x) env
 
-  abbrev pub ruleSteps : ℕ → Record → Env → ℕ → Walk → ℕ → Rule → List ℕ
-  ruleSteps e r env left w s rule =
-      row rule .chosen ++ premises (graphOf image) (partsOf e r env left w s (binds (row rule .kind))) s (body rule .premises)
+  abbrev pub bOf : ℕ → Env → Entry
+  bOf e env = boundEntry (recordAt table e .b) (recordAt table e .y) env
 
-  -- ---- of the formula in hand
+  -- The stage at which the walk of a modality starts.
+  abbrev pub startOf : ℕ → Env → ℕ
+  startOf e env = value env (termOf (recordAt table e .t))
 
-  -- Its a and its b, with x and y at a stage.
-  abbrev pub aSteps : InHand → ℕ → List ℕ
-  aSteps f t = operandSteps (f .e) (f .r .a) (bind (envOf (f .env)) (f .r .x) t)
+  -- The steps of an entry's formula with fuel, at a stage of its walk: of AF and EG, which have an a, and of AR and EU, which have a b too.
+  unfoldable pub oneSteps : RuleKind → ℕ → Env → ℕ → Walk → ℕ → List ℕ
+  oneSteps k e env left w s = along (graphOf image) k (aOf e env) (no-entry (graphOf image)) left w s
 
-  abbrev pub bSteps : InHand → ℕ → List ℕ
-  bSteps f t = operandSteps (f .e) (f .r .b) (bind (envOf (f .env)) (f .r .y) t)
+  unfoldable pub twoSteps : RuleKind → ℕ → Env → ℕ → Walk → ℕ → List ℕ
+  twoSteps k e env left w s = along (graphOf image) k (aOf e env) (bOf e env) left w s
 
-  -- a at each successor of s.
-  abbrev pub eachA : InHand → ℕ → List ℕ
-  eachA f s = through (graphOf image .stages) (graphOf image .next s) (aSteps f)
+  -- Those of AF at a stage, which are the same on every walk and with all fuel that lasts.
+  abbrev pub afSteps : ℕ → Env → ℕ → List ℕ
+  afSteps e env s = oneSteps RuleKind.AF e env (suc (stagesOf image)) empty s
 
-  -- It itself, where its walk is; and further on, with the present stage added.
-  abbrev pub alongSteps : InHand → Along → List ℕ
-  alongSteps f w = walkSteps (f .e) (envOf (f .env)) (w .left) (walkOf (number (w .walk))) (w .s)
+-- ---- what a writer goes by
 
-  abbrev pub onSteps : InHand → Along → ℕ → List ℕ
-  onSteps f w t = walkSteps (f .e) (envOf (f .env)) (w .left) (also (walkOf (number (w .walk))) (w .s)) t
+-- What is the same for a whole certificate: the row holds the successor sets of a readable graph, every record keeps its rules, and the entries are
+-- prepared on the side.
+pub record Setup (image table next entries : List ℕ) (side : ℕ) : Type 0 where
+  pub row : Row next (stagesOf image) (graphOf image)
+  pub sets : (s : ℕ) → s < stagesOf image → SuccessorsOf image s (held next s)
+  pub readable : Readable (graphOf image)
+  pub ruled : (i : ℕ) → i < entriesOf table → Ruled image i (recordAt table i)
+  pub most : entriesOf table ≤ mostEntries
+  pub prepared : (i : ℕ) → i < entriesOf table → entryAt entries i ≡ entryOf image side (recordAt table i)
 
-  -- Further on at each successor; and at a chosen one: the choice, a here, and it itself there.
-  abbrev pub eachOn : InHand → Along → List ℕ
-  eachOn f w = through (graphOf image .stages) (graphOf image .next (w .s)) (onSteps f w)
+-- The formula of an entry holds on the side, where the variables stand at stages.
+pub record Holding (image table next entries : List ℕ) (side e : ℕ) (env : Slots) : Type 0 where
+  pub setup : Setup image table next entries side
+  pub entry : e < entriesOf table
+  pub stand : Stand (stagesOf image) (envOf env)
+  pub holds : T (truthOn image table side e env)
 
-  abbrev pub goesOn : InHand → Along → ℕ → List ℕ
-  goesOn f w c = (c ∷ []) ++ (aSteps f (w .s) ++ onSteps f w c)
-
-  -- What follows the code of a rule.
-  abbrev pub afterCode : InHand → Along → Rule → List ℕ
-  afterCode f w rule = ruleSteps (f .e) (f .r) (envOf (f .env)) (w .left) (walkOf (number (w .walk))) (w .s) rule
+-- It is of a kind there.
+pub record InHand (image table next entries : List ℕ) (side e : ℕ) (env : Slots) (k : Kind) : Type 0 where
+  pub holding : Holding image table next entries side e env
+  pub kind : kindOn side (kindOf (recordAt table e .kind)) ≡ k
 
 -- The set r holds the successors of s below n, in a row of successor sets.
 pub record NextOf (next : List ℕ) (n s r : ℕ) : Type 0 where
   pub each : (t : ℕ) → Has r t ↔ (Has (held next s) t × (t < n))
 
--- The formula of an entry is in hand.
-pub record OfEntry (image table next : List ℕ) (run : Run) (f : InHand) : Type 0 where
-  pub ready : Ready image table next (run .stages) (f .e) (f .env)
-  pub is : f .r ≡ recordAt table (f .e)
+-- AF of a is reached from s in fewer rounds than there is fuel.
+pub record Lasts (G : Graph) (a : Stages) (left s : ℕ) : Type 0 where
+  pub round : ℕ
+  pub before : round < left
+  pub reached : T (iter (af-round G) round a s)
 
--- At a stage, a writer of it is guided.
-pub record Guided (image table next toward : List ℕ) (run : Run) (f : InHand) (s : ℕ) : Type 0 where
-  pub entry : OfEntry image table next run f
-  pub below : s < run .stages
-  pub guides : Guides (graphOf image) (sided (run .side) (treeOf image table (f .e))) (envOf (f .env)) (kindOn (run .side) (kindOf (f .r .kind)))
-      (number (f .stop)) toward
+-- Each length that is noted at a stage, 0 where none is, is that of the steps of AF there.
+pub record Noted (image table : List ℕ) (side e : ℕ) (env : Env) (lens : List ℕ) : Type 0 where
+  pub each : (s : ℕ) → 0 < getD lens s 0 → getD lens s 0 ≡ length (afSteps image table side e env s)
 
--- Every stage that a rule chose is below n.
-abbrev pub ChosenBelow : ℕ → List ℕ → Type 0
-ChosenBelow n [] = Unit {0}
-ChosenBelow n (c ∷ cs) = (c < n) × ChosenBelow n cs
+-- A walk of AF is at a stage: the set has the stages at which it goes now.
+pub record AfAt (image table next entries : List ℕ) (side e : ℕ) (env : Slots) (stop s left : ℕ) (lens : List ℕ) : Type 0 where
+  pub hand : InHand image table next entries side e env K.AF
+  pub stops : Collects (stagesOf image) (aOf image table side e (envOf env) .holds) stop
+  pub below : s < stagesOf image
+  pub lasts : Lasts (graphOf image) (aOf image table side e (envOf env) .holds) left s
+  pub fuel : left ≤ stagesOf image + 1
+  pub noted : Noted image table side e (envOf env) lens
 
-pub record Begun (image table next toward : List ℕ) (run : Run) (f : InHand) (s : ℕ) (rule : Rule) : Type 0 where
-  pub at : Guided image table next toward run f s
-  pub chosen : ChosenBelow (run .stages) (row rule .chosen)
+-- A walk of AR is at a stage: the set has the stages at which it is released.
+pub record ArAt (image table next entries : List ℕ) (side e : ℕ) (env : Slots) (stop s left : ℕ) : Type 0 where
+  pub hand : InHand image table next entries side e env K.AR
+  pub stops : Collects (stagesOf image) (aOf image table side e (envOf env) .holds) stop
+  pub below : s < stagesOf image
+  pub holds : T (ar (graphOf image) (aOf image table side e (envOf env) .holds) (bOf image table side e (envOf env) .holds) s)
+  pub fuel : left ≤ stagesOf image + 1

@@ -12,14 +12,13 @@ use format::question;
 use format::question::Question;
 use hand::env::Env;
 use hand::setup;
-use steps::Run;
 use verdict::truth;
 ghost use mathlib.Core.Path.{_≡_};
 ghost use Rattle.format.specs.Answers.{QuestionRead};
 ghost use Rattle.hand.specs.Environment.{envOf};
 ghost use Rattle.verdict.specs.Evaluation.{Ready, truthOf};
 ghost use Rattle.writer.specs.Wrote.{Wrote};
-ghost use Rattle.writer.specs.Steps.{wholeBytes};
+ghost use Rattle.writer.specs.Steps.{wholeBytes, Holding};
 ghost use Rattle.writer.specs.Write.{sideBy, WriteAnswer, CodedAnswer};
 
 // Writes the certificate of a goal at a start to the buffer's front, and answers its side and length; or gives the first of the refusals 1 to 13, then
@@ -33,8 +32,8 @@ pub fn write(image: &[u8], table: &[u8], goal: u64, start: u64, buffer: &mut [u8
     }
 }
 
-// The same of a question that was read: the successor sets are decoded once, variable 0 stands at the start, and the others, which the goal does not
-// name, at stage 0.
+// The same of a question that was read: the successor sets are decoded once, the entries are prepared for the side that holds, variable 0 stands at the
+// start, and the others, which the goal does not name, at stage 0.
 fn answered(image: &[u8], table: &[u8], q: Question, buffer: &mut [u8]) -> Answer
     requires { ⌜ QuestionRead (now image) (now table) (q .goal) (q .start) q ⌝ }
     ensures { λ r. ⌜ WriteAnswer (now (image .entry)) (now (table .entry)) (q .goal) (q .start) (now (buffer .entry)) (now (buffer .exit)) r ⌝ }
@@ -48,21 +47,35 @@ fn answered(image: &[u8], table: &[u8], q: Question, buffer: &mut [u8]) -> Answe
         slots: [q.start, 0, 0, 0],
     };
     let side = side_of(image, table, &next, n, q.goal, env);
-    let count = Run {
-        stages: n,
-        side: side,
-        writing: false,
-    };
-    let length = whole(image, table, &next, count, q.goal, q.start, env, buffer);
+    let mut entries = [0u8; setup::ENTRIES];
+    setup::prepare(image, table, shape.entries, side, &mut entries);
+    let length = whole(
+        image,
+        table,
+        &next,
+        &entries,
+        side,
+        false,
+        q.goal,
+        q.start,
+        env,
+        buffer,
+    );
     if buffer.len() < length {
         return Answer::Refused(Refusal::BufferTooShort);
     }
-    let write = Run {
-        stages: n,
-        side: side,
-        writing: true,
-    };
-    whole(image, table, &next, write, q.goal, q.start, env, buffer);
+    whole(
+        image,
+        table,
+        &next,
+        &entries,
+        side,
+        true,
+        q.goal,
+        q.start,
+        env,
+        buffer,
+    );
     Answer::Written {
         side: side,
         length: length,
@@ -85,19 +98,32 @@ fn side_of(image: &[u8], table: &[u8], next: &[u64], n: usize, goal: u8, env: En
 fn whole(
     image: &[u8],
     table: &[u8],
-    next: &[u64],
-    run: Run,
+    next: &[u64; setup::NEXT],
+    entries: &[u8; setup::ENTRIES],
+    side: u8,
+    writing: bool,
     goal: u8,
     start: u8,
     env: Env,
     out: &mut [u8],
 ) -> usize
-    requires { ⌜ Ready (now image) (now table) (now next) (run .stages) goal env ⌝ }
-    ensures { λ r. ⌜ Wrote (run .writing) (wholeBytes (now (image .entry)) (now (table .entry)) (run .side) goal start (envOf env))
+    requires { ⌜ Holding (now image) (now table) (now next) (now entries) side goal env ⌝ }
+    ensures { λ r. ⌜ Wrote writing (wholeBytes (now (image .entry)) (now (table .entry)) side goal start (envOf env))
         0 (now (out .entry)) (now (out .exit)) r ⌝ }
 {
-    let begun = bytes::header(out, run.writing, run.side, goal, start);
-    steps::formula(image, table, next, run, goal, env, out, begun)
+    let begun = bytes::header(out, writing, side, goal, start);
+    steps::formula(
+        image,
+        table,
+        next,
+        entries,
+        side,
+        writing,
+        goal,
+        env,
+        out,
+        begun,
+    )
 }
 
 // The writing for callers in C, as one number: `answer::code` says which. The certificate's length goes into a lent number, which a refusal leaves as

@@ -1,323 +1,540 @@
-// Writing the steps of a certificate: a formula step hands over to a walk, and the walk back to formula steps. What a walk goes by is worked out once,
-// when its formula is come to (`guide`), and handed down. Each writer takes the place that the writing came to, and answers the place after its own
-// bytes; past the buffer's end there is nothing to do, so that a certificate that does not fit is given up at once, however long it is.
+// Writing the steps of a certificate: an entry's formula, and a function for each kind of walk, which comes back to formulas for its operands. What a walk
+// goes by is worked out once, when its formula is come to (`guide`). Each writer takes the place that the writing came to, and answers the place after its
+// own bytes; past the buffer's end there is nothing to do, so that a certificate that does not fit is given up at once, however long it is.
 //
-// Two numbers fall: the entry's, at each operand, and the fuel, at each step of a walk.
+// All require a formula that holds on the side: an operand is written only where it holds too. Two numbers fall: the entry's, at each operand, and the
+// fuel, at each step of a walk. What is lent along, the sets and the prepared entries, are arrays, and the rest plain values, since a record would be
+// copied at each call.
 use crate::bytes::code_of;
 use crate::bytes::put;
+use format::byte;
 use format::record;
-use format::record::Record;
+use format::record::Kind;
+use guide::sides;
+use hand::env;
 use hand::env::Env;
+use hand::setup;
 use rules::Rule;
 use sets::Set;
-ghost use Prim.Native.Nat.{suc, _≤_, _<_};
+ghost use Prim.Native.Nat.{_≤_};
 ghost use lib.ListN.{length};
-ghost use Rattle.sets.specs.Number.{number, width};
+ghost use Rattle.sets.specs.Number.{number};
+ghost use Rattle.format.specs.declared.record.Kind.the-variants.{Or, AX, EX, AF, EG, AR, EU};
+ghost use Rattle.rules.specs.Kind as rule;
 ghost use Rattle.hand.specs.Environment.{envOf};
-ghost use Rattle.verdict.specs.Evaluation.{Ready};
+ghost use Rattle.checker.specs.Reading.{walkOf};
 ghost use Rattle.writer.specs.Wrote.{Wrote};
-ghost use Rattle.writer.specs.Steps.{entrySteps, operandSteps, aSteps, bSteps, alongSteps, eachA, eachOn, goesOn, afterCode};
-ghost use Rattle.writer.specs.Steps.{NextOf, OfEntry, Guided, Begun};
+ghost use Rattle.writer.specs.Steps.{entrySteps, afSteps, twoSteps, Holding, InHand, AfAt, ArAt, Noted};
 
-// What is the same for a whole certificate: how many stages there are, which side is proved, and whether its bytes are written or only counted.
-pub(crate) struct Run {
-    pub stages: usize,
-    pub side: u8,
-    pub writing: bool,
-}
-
-// The formula in hand: its entry and record, where the variables stand, and the stages at which it stops.
-pub(crate) struct InHand {
-    pub e: u8,
-    pub r: Record,
-    pub env: Env,
-    pub stop: Set,
-}
-
-// Where its walk is: the stages on it, the present stage, and the fuel.
-pub(crate) struct Along {
-    pub walk: Set,
-    pub s: u8,
-    pub left: usize,
-}
-
-// An entry's formula, from the start of its walk.
+// An entry's formula, from the start of its walk. False holds nowhere, and a table has no other kind.
 pub(crate) fn formula(
     image: &[u8],
     table: &[u8],
-    next: &[u64],
-    run: Run,
+    next: &[u64; setup::NEXT],
+    entries: &[u8; setup::ENTRIES],
+    side: u8,
+    write: bool,
     e: u8,
     env: Env,
     out: &mut [u8],
     at: usize,
 ) -> usize
-    requires { ⌜ Ready (now image) (now table) (now next) (run .stages) e env ⌝ }
-    ensures { λ r. ⌜ Wrote (run .writing) (entrySteps (now (image .entry)) (now (table .entry)) (run .side) e (envOf env))
-        at (now (out .entry)) (now (out .exit)) r ⌝ }
+    requires { ⌜ Holding (now image) (now table) (now next) (now entries) side e env ⌝ }
+    ensures { λ r. ⌜ Wrote write (entrySteps (now (image .entry)) (now (table .entry)) side e (envOf env)) at (now (out .entry)) (now (out .exit)) r ⌝ }
 {
-    if out.len() < at {
-        return out.len() + 1;
+    let f = setup::entry_at(entries, e);
+    match record::kind_of(f.kind) {
+        Kind::True => put(out, write, at, code_of(Rule::True)),
+        Kind::False => at,
+        Kind::Is => put(out, write, at, code_of(Rule::Holds)),
+        Kind::IsNot => put(out, write, at, code_of(Rule::HoldsNot)),
+        Kind::And => {
+            let on = put(out, write, at, code_of(Rule::And));
+            let a = formula(image, table, next, entries, side, write, f.a, env, out, on);
+            formula(image, table, next, entries, side, write, f.b, env, out, a)
+        }
+        Kind::Or => or(image, table, next, entries, side, write, e, env, out, at),
+        Kind::AX => ax(image, table, next, entries, side, write, e, env, out, at),
+        Kind::EX => ex(image, table, next, entries, side, write, e, env, out, at),
+        Kind::AF => af_from(image, table, next, entries, side, write, e, env, out, at),
+        Kind::EG => eg(image, table, next, entries, side, write, e, env, out, at),
+        Kind::AR => ar_from(image, table, next, entries, side, write, e, env, out, at),
+        Kind::EU => eu(image, table, next, entries, side, write, e, env, out, at),
+        Kind::NoKind => at,
     }
-    let r = record::entry(table, e as usize);
-    let mut toward = [0u8; sets::WIDTH];
-    let n = run.stages;
-    let stop = guide::guide(image, table, next, n, run.side, e, env, &mut toward);
-    let f = InHand {
-        e: e,
-        r: r,
-        env: env,
-        stop: stop,
-    };
-    let w = Along {
-        walk: sets::empty(),
-        s: hand::start_of(r, env),
-        left: n + 1,
-    };
-    step(image, table, next, run, f, &toward, w, out, at)
 }
 
-// An operand of entry e, which has a lower number; any other counts as false, for which 0 stands on either side.
-fn operand(
+// Or: left if it holds, else right.
+fn or(
     image: &[u8],
     table: &[u8],
-    next: &[u64],
-    run: Run,
+    next: &[u64; setup::NEXT],
+    entries: &[u8; setup::ENTRIES],
+    side: u8,
+    write: bool,
     e: u8,
-    o: u8,
     env: Env,
     out: &mut [u8],
     at: usize,
 ) -> usize
-    requires { ⌜ Ready (now image) (now table) (now next) (run .stages) e env ⌝ }
-    ensures { λ r. ⌜ Wrote (run .writing) (operandSteps (now (image .entry)) (now (table .entry)) (run .side) e o (envOf env))
-        at (now (out .entry)) (now (out .exit)) r ⌝ }
-{
-    if o < e {
-        formula(image, table, next, run, o, env, out, at)
-    } else {
-        put(out, run.writing, at, 0)
-    }
-}
-
-// The a of the formula in hand, with x at stage t.
-fn a_at(
-    image: &[u8],
-    table: &[u8],
-    next: &[u64],
-    run: Run,
-    f: InHand,
-    t: u8,
-    out: &mut [u8],
-    at: usize,
-) -> usize
-    requires { ⌜ OfEntry (now image) (now table) (now next) run f × (t < run .stages) ⌝ }
-    ensures { λ r. ⌜ Wrote (run .writing) (aSteps (now (image .entry)) (now (table .entry)) (run .side) f t)
-        at (now (out .entry)) (now (out .exit)) r ⌝ }
-{
-    let r = f.r;
-    let env = f.env;
-    let here = env.bound(r.x, t);
-    operand(image, table, next, run, f.e, r.a, here, out, at)
-}
-
-// The b of the formula in hand, with y at stage t.
-fn b_at(
-    image: &[u8],
-    table: &[u8],
-    next: &[u64],
-    run: Run,
-    f: InHand,
-    t: u8,
-    out: &mut [u8],
-    at: usize,
-) -> usize
-    requires { ⌜ OfEntry (now image) (now table) (now next) run f × (t < run .stages) ⌝ }
-    ensures { λ r. ⌜ Wrote (run .writing) (bSteps (now (image .entry)) (now (table .entry)) (run .side) f t)
-        at (now (out .entry)) (now (out .exit)) r ⌝ }
-{
-    let r = f.r;
-    let env = f.env;
-    let here = env.bound(r.y, t);
-    operand(image, table, next, run, f.e, r.b, here, out, at)
-}
-
-// One step for the formula in hand, where its walk is.
-fn step(
-    image: &[u8],
-    table: &[u8],
-    next: &[u64],
-    run: Run,
-    f: InHand,
-    toward: &[u8],
-    w: Along,
-    out: &mut [u8],
-    at: usize,
-) -> usize
-    requires { ⌜ Guided (now image) (now table) (now next) (now toward) run f (w .s) ⌝ }
-    ensures { λ r. ⌜ Wrote (run .writing) (alongSteps (now (image .entry)) (now (table .entry)) (run .side) f w)
-        at (now (out .entry)) (now (out .exit)) r ⌝ }
+    requires { ⌜ InHand (now image) (now table) (now next) (now entries) side e env Or ⌝ }
+    ensures { λ r. ⌜ Wrote write (entrySteps (now (image .entry)) (now (table .entry)) side e (envOf env)) at (now (out .entry)) (now (out .exit)) r ⌝ }
 {
     if out.len() < at {
         return out.len() + 1;
     }
-    if w.left == 0 {
-        return at;
+    let f = setup::entry_at(entries, e);
+    if sides::holds_on(image, table, next, byte(image, 5) as usize, side, f.a, env) {
+        let on = put(out, write, at, code_of(Rule::OrLeft));
+        return formula(image, table, next, entries, side, write, f.a, env, out, on);
     }
-    let r = f.r;
-    let stop = f.stop;
-    let walk = w.walk;
-    let rule = guide::choose(hand::kind_on(run.side, r.kind), stop, toward, walk, w.s);
-    let begun = put(out, run.writing, at, code_of(rule));
-    let on = Along {
-        walk: walk,
-        s: w.s,
-        left: w.left - 1,
-    };
-    after_code(image, table, next, run, f, toward, on, rule, out, begun)
+    let on = put(out, write, at, code_of(Rule::OrRight));
+    formula(image, table, next, entries, side, write, f.b, env, out, on)
 }
 
-// What follows a rule's code: its chosen stage, where there is one, and its premises in order. The fuel is that of the premises that go on with the walk.
-fn after_code(
+// AX: a at each successor, ascending.
+fn ax(
     image: &[u8],
     table: &[u8],
-    next: &[u64],
-    run: Run,
-    f: InHand,
-    toward: &[u8],
-    w: Along,
-    rule: Rule,
+    next: &[u64; setup::NEXT],
+    entries: &[u8; setup::ENTRIES],
+    side: u8,
+    write: bool,
+    e: u8,
+    env: Env,
     out: &mut [u8],
     at: usize,
 ) -> usize
-    requires { ⌜ Begun (now image) (now table) (now next) (now toward) run f (w .s) rule × (at ≤ suc (length (now out))) ⌝ }
-    ensures { λ r. ⌜ Wrote (run .writing) (afterCode (now (image .entry)) (now (table .entry)) (run .side) f w rule)
-        at (now (out .entry)) (now (out .exit)) r ⌝ }
+    requires { ⌜ InHand (now image) (now table) (now next) (now entries) side e env AX ⌝ }
+    ensures { λ r. ⌜ Wrote write (entrySteps (now (image .entry)) (now (table .entry)) side e (envOf env)) at (now (out .entry)) (now (out .exit)) r ⌝ }
 {
-    let r = f.r;
-    let env = f.env;
-    match rule {
-        Rule::True => at,
-        Rule::Holds => at,
-        Rule::HoldsNot => at,
-        Rule::And => {
-            let a = operand(image, table, next, run, f.e, r.a, env, out, at);
-            operand(image, table, next, run, f.e, r.b, env, out, a)
-        }
-        Rule::OrLeft => operand(image, table, next, run, f.e, r.a, env, out, at),
-        Rule::OrRight => operand(image, table, next, run, f.e, r.b, env, out, at),
-        Rule::Ax => at_each(image, table, next, run, f, w.s, out, at),
-        Rule::Ex(c) => {
-            let chosen = put(out, run.writing, at, c);
-            a_at(image, table, next, run, f, c, out, chosen)
-        }
-        Rule::AfNow => a_at(image, table, next, run, f, w.s, out, at),
-        Rule::AfLater => on_each(image, table, next, run, f, toward, w, out, at),
-        Rule::EgOn(c) => go_on(image, table, next, run, f, toward, w, c, out, at),
-        Rule::EgMerge => at,
-        Rule::ArRelease => {
-            let a = a_at(image, table, next, run, f, w.s, out, at);
-            b_at(image, table, next, run, f, w.s, out, a)
-        }
-        Rule::ArOn => {
-            let b = b_at(image, table, next, run, f, w.s, out, at);
-            on_each(image, table, next, run, f, toward, w, out, b)
-        }
-        Rule::ArMerge => at,
-        Rule::EuNow => b_at(image, table, next, run, f, w.s, out, at),
-        Rule::EuLater(c) => go_on(image, table, next, run, f, toward, w, c, out, at),
+    if out.len() < at {
+        return out.len() + 1;
     }
-}
-
-// A walk that goes on at one chosen successor: the choice, a here, and the walk there, with the present stage added.
-fn go_on(
-    image: &[u8],
-    table: &[u8],
-    next: &[u64],
-    run: Run,
-    f: InHand,
-    toward: &[u8],
-    w: Along,
-    c: u8,
-    out: &mut [u8],
-    at: usize,
-) -> usize
-    requires { ⌜ Guided (now image) (now table) (now next) (now toward) run f (w .s) × (c < run .stages) ⌝ }
-    ensures { λ r. ⌜ Wrote (run .writing) (goesOn (now (image .entry)) (now (table .entry)) (run .side) f w c)
-        at (now (out .entry)) (now (out .exit)) r ⌝ }
-{
-    let chosen = put(out, run.writing, at, c);
-    let a = a_at(image, table, next, run, f, w.s, out, chosen);
-    let walk = w.walk;
-    let on = Along {
-        walk: sets::with(walk, w.s as usize),
-        s: c,
-        left: w.left,
-    };
-    step(image, table, next, run, f, toward, on, out, a)
-}
-
-// The successors of a stage.
-fn successors(next: &[u64], n: usize, s: u8) -> Set
-    requires { ⌜ n ≤ width ⌝ }
-    ensures { λ r. ⌜ NextOf (now (next .entry)) n s (number r) ⌝ }
-{
-    sets::common(sets::row::load(next, s as usize), sets::below(n))
-}
-
-// The a of the formula in hand at each successor of s, ascending.
-fn at_each(
-    image: &[u8],
-    table: &[u8],
-    next: &[u64],
-    run: Run,
-    f: InHand,
-    s: u8,
-    out: &mut [u8],
-    at: usize,
-) -> usize
-    requires { ⌜ OfEntry (now image) (now table) (now next) run f × (s < run .stages) × (at ≤ suc (length (now out))) ⌝ }
-    ensures { λ r. ⌜ Wrote (run .writing) (eachA (now (image .entry)) (now (table .entry)) (run .side) f s)
-        at (now (out .entry)) (now (out .exit)) r ⌝ }
-{
-    let mut there = successors(next, run.stages, s);
-    let mut here = at;
+    let f = setup::entry_at(entries, e);
+    let mut there = sets::row::load(next, env::stage_of(f.t, env) as usize);
+    let mut here = put(out, write, at, code_of(Rule::Ax));
     while !sets::is_empty(there) {
         let t = sets::lowest(there) as u8;
-        here = a_at(image, table, next, run, f, t, out, here);
+        let to = env.bound(f.x, t);
+        here = formula(image, table, next, entries, side, write, f.a, to, out, here);
         there = sets::rest(there);
     }
     here
 }
 
-// The walk, with the present stage added, at each of its successors, ascending.
-fn on_each(
+// EX: a at the lowest successor at which it holds.
+fn ex(
     image: &[u8],
     table: &[u8],
-    next: &[u64],
-    run: Run,
-    f: InHand,
-    toward: &[u8],
-    w: Along,
+    next: &[u64; setup::NEXT],
+    entries: &[u8; setup::ENTRIES],
+    side: u8,
+    write: bool,
+    e: u8,
+    env: Env,
     out: &mut [u8],
     at: usize,
 ) -> usize
-    requires { ⌜ Guided (now image) (now table) (now next) (now toward) run f (w .s) × (at ≤ suc (length (now out))) ⌝ }
-    ensures { λ r. ⌜ Wrote (run .writing) (eachOn (now (image .entry)) (now (table .entry)) (run .side) f w)
+    requires { ⌜ InHand (now image) (now table) (now next) (now entries) side e env EX ⌝ }
+    ensures { λ r. ⌜ Wrote write (entrySteps (now (image .entry)) (now (table .entry)) side e (envOf env)) at (now (out .entry)) (now (out .exit)) r ⌝ }
+{
+    if out.len() < at {
+        return out.len() + 1;
+    }
+    let f = setup::entry_at(entries, e);
+    let n = byte(image, 5) as usize;
+    let s = env::stage_of(f.t, env);
+    let c = guide::ex(image, table, next, n, side, f.a, env, f.x, s);
+    let on = put(out, write, at, code_of(Rule::Ex(c)));
+    let chosen = put(out, write, on, c);
+    let to = env.bound(f.x, c);
+    formula(
+        image,
+        table,
+        next,
+        entries,
+        side,
+        write,
+        f.a,
+        to,
+        out,
+        chosen,
+    )
+}
+
+// AF, from the start of its walk: it goes now where a holds. No length is known yet.
+fn af_from(
+    image: &[u8],
+    table: &[u8],
+    next: &[u64; setup::NEXT],
+    entries: &[u8; setup::ENTRIES],
+    side: u8,
+    write: bool,
+    e: u8,
+    env: Env,
+    out: &mut [u8],
+    at: usize,
+) -> usize
+    requires { ⌜ InHand (now image) (now table) (now next) (now entries) side e env AF ⌝ }
+    ensures { λ r. ⌜ Wrote write (entrySteps (now (image .entry)) (now (table .entry)) side e (envOf env)) at (now (out .entry)) (now (out .exit)) r ⌝ }
+{
+    if out.len() < at {
+        return out.len() + 1;
+    }
+    let f = setup::entry_at(entries, e);
+    let n = byte(image, 5) as usize;
+    let stop = sides::where_on(image, table, next, n, side, f.a, env, f.x);
+    let mut lens = [0u64; sets::WIDTH];
+    af(
+        image,
+        table,
+        next,
+        entries,
+        side,
+        write,
+        e,
+        env,
+        stop,
+        env::stage_of(f.t, env),
+        n + 1,
+        &mut lens,
+        out,
+        at,
+    )
+}
+
+// AF at a stage. Its steps there are the same however it is come to, so while they are only counted their length is worked out once and noted. A length
+// that passes the buffer is not: the count has stopped then.
+fn af(
+    image: &[u8],
+    table: &[u8],
+    next: &[u64; setup::NEXT],
+    entries: &[u8; setup::ENTRIES],
+    side: u8,
+    write: bool,
+    e: u8,
+    env: Env,
+    stop: Set,
+    s: u8,
+    left: usize,
+    lens: &mut [u64; sets::WIDTH],
+    out: &mut [u8],
+    at: usize,
+) -> usize
+    requires { ⌜ AfAt (now image) (now table) (now next) (now entries) side e env (number stop) s left (now lens) ⌝ }
+    ensures { λ r. ⌜ Wrote write (afSteps (now (image .entry)) (now (table .entry)) side e (envOf env) s) at (now (out .entry)) (now (out .exit)) r
+        × Noted (now (image .entry)) (now (table .entry)) side e (envOf env) (now (lens .exit)) ⌝ }
+{
+    if out.len() < at {
+        return out.len() + 1;
+    }
+    let i = s as usize;
+    if !write {
+        let known = lens[i] as usize;
+        if 0 < known {
+            if out.len() - at < known {
+                return out.len() + 1;
+            }
+            return at + known;
+        }
+    }
+    let end = af_step(
+        image,
+        table,
+        next,
+        entries,
+        side,
+        write,
+        e,
+        env,
+        stop,
+        s,
+        left,
+        lens,
+        out,
+        at,
+    );
+    if end <= out.len() {
+        lens[i] = (end - at) as u64;
+    }
+    end
+}
+
+// One step of AF: now, or at each successor, ascending.
+fn af_step(
+    image: &[u8],
+    table: &[u8],
+    next: &[u64; setup::NEXT],
+    entries: &[u8; setup::ENTRIES],
+    side: u8,
+    write: bool,
+    e: u8,
+    env: Env,
+    stop: Set,
+    s: u8,
+    left: usize,
+    lens: &mut [u64; sets::WIDTH],
+    out: &mut [u8],
+    at: usize,
+) -> usize
+    requires { ⌜ AfAt (now image) (now table) (now next) (now entries) side e env (number stop) s left (now lens) × (at ≤ length (now out)) ⌝ }
+    ensures { λ r. ⌜ Wrote write (afSteps (now (image .entry)) (now (table .entry)) side e (envOf env) s) at (now (out .entry)) (now (out .exit)) r
+        × Noted (now (image .entry)) (now (table .entry)) side e (envOf env) (now (lens .exit)) ⌝ }
+{
+    if sets::has(stop, s as usize) {
+        let f = setup::entry_at(entries, e);
+        let on = put(out, write, at, code_of(Rule::AfNow));
+        let to = env.bound(f.x, s);
+        return formula(image, table, next, entries, side, write, f.a, to, out, on);
+    }
+    let mut here = put(out, write, at, code_of(Rule::AfLater));
+    let mut there = sets::row::load(next, s as usize);
+    while !sets::is_empty(there) {
+        let t = sets::lowest(there) as u8;
+        here = af(
+            image,
+            table,
+            next,
+            entries,
+            side,
+            write,
+            e,
+            env,
+            stop,
+            t,
+            left - 1,
+            lens,
+            out,
+            here,
+        );
+        there = sets::rest(there);
+    }
+    here
+}
+
+// EG: a at each stage of a walk, which goes on at the lowest successor at which EG holds, until it merges.
+fn eg(
+    image: &[u8],
+    table: &[u8],
+    next: &[u64; setup::NEXT],
+    entries: &[u8; setup::ENTRIES],
+    side: u8,
+    write: bool,
+    e: u8,
+    env: Env,
+    out: &mut [u8],
+    at: usize,
+) -> usize
+    requires { ⌜ InHand (now image) (now table) (now next) (now entries) side e env EG ⌝ }
+    ensures { λ r. ⌜ Wrote write (entrySteps (now (image .entry)) (now (table .entry)) side e (envOf env)) at (now (out .entry)) (now (out .exit)) r ⌝ }
+{
+    if out.len() < at {
+        return out.len() + 1;
+    }
+    let f = setup::entry_at(entries, e);
+    let n = byte(image, 5) as usize;
+    let mut toward = [0u8; sets::WIDTH];
+    guide::eg(image, table, next, n, side, f.a, env, f.x, &mut toward);
+    let mut walk = sets::empty();
+    let mut s = env::stage_of(f.t, env);
+    let mut left = n + 1;
+    let mut here = at;
+    while 0 < left {
+        if sets::has(walk, s as usize) {
+            return put(out, write, here, code_of(Rule::EgMerge));
+        }
+        let c = toward[s as usize];
+        let on = put(out, write, here, code_of(Rule::EgOn(c)));
+        let chosen = put(out, write, on, c);
+        let to = env.bound(f.x, s);
+        here = formula(
+            image,
+            table,
+            next,
+            entries,
+            side,
+            write,
+            f.a,
+            to,
+            out,
+            chosen,
+        );
+        walk = sets::with(walk, s as usize);
+        s = c;
+        left = left - 1;
+    }
+    here
+}
+
+// AR, from the start of its walk: it is released where a holds.
+fn ar_from(
+    image: &[u8],
+    table: &[u8],
+    next: &[u64; setup::NEXT],
+    entries: &[u8; setup::ENTRIES],
+    side: u8,
+    write: bool,
+    e: u8,
+    env: Env,
+    out: &mut [u8],
+    at: usize,
+) -> usize
+    requires { ⌜ InHand (now image) (now table) (now next) (now entries) side e env AR ⌝ }
+    ensures { λ r. ⌜ Wrote write (entrySteps (now (image .entry)) (now (table .entry)) side e (envOf env)) at (now (out .entry)) (now (out .exit)) r ⌝ }
+{
+    if out.len() < at {
+        return out.len() + 1;
+    }
+    let f = setup::entry_at(entries, e);
+    let n = byte(image, 5) as usize;
+    let stop = sides::where_on(image, table, next, n, side, f.a, env, f.x);
+    ar(
+        image,
+        table,
+        next,
+        entries,
+        side,
+        write,
+        e,
+        env,
+        stop,
+        sets::empty(),
+        env::stage_of(f.t, env),
+        n + 1,
+        out,
+        at,
+    )
+}
+
+// AR at a stage of its walk: merge, release, or b here and AR at each successor, ascending.
+fn ar(
+    image: &[u8],
+    table: &[u8],
+    next: &[u64; setup::NEXT],
+    entries: &[u8; setup::ENTRIES],
+    side: u8,
+    write: bool,
+    e: u8,
+    env: Env,
+    stop: Set,
+    walk: Set,
+    s: u8,
+    left: usize,
+    out: &mut [u8],
+    at: usize,
+) -> usize
+    requires { ⌜ ArAt (now image) (now table) (now next) (now entries) side e env (number stop) s left ⌝ }
+    ensures { λ r. ⌜ Wrote write (twoSteps (now (image .entry)) (now (table .entry)) side rule.Kind.AR e (envOf env) left (walkOf (number walk)) s)
         at (now (out .entry)) (now (out .exit)) r ⌝ }
 {
-    let walk = w.walk;
-    let longer = sets::with(walk, w.s as usize);
-    let mut there = successors(next, run.stages, w.s);
-    let mut here = at;
+    if out.len() < at {
+        return out.len() + 1;
+    }
+    if left == 0 {
+        return at;
+    }
+    if sets::has(walk, s as usize) {
+        return put(out, write, at, code_of(Rule::ArMerge));
+    }
+    let f = setup::entry_at(entries, e);
+    if sets::has(stop, s as usize) {
+        let on = put(out, write, at, code_of(Rule::ArRelease));
+        let to = env.bound(f.x, s);
+        let a = formula(image, table, next, entries, side, write, f.a, to, out, on);
+        let to = env.bound(f.y, s);
+        return formula(image, table, next, entries, side, write, f.b, to, out, a);
+    }
+    let on = put(out, write, at, code_of(Rule::ArOn));
+    let to = env.bound(f.y, s);
+    let mut here = formula(image, table, next, entries, side, write, f.b, to, out, on);
+    let longer = sets::with(walk, s as usize);
+    let mut there = sets::row::load(next, s as usize);
     while !sets::is_empty(there) {
-        let on = Along {
-            walk: longer,
-            s: sets::lowest(there) as u8,
-            left: w.left,
-        };
-        here = step(image, table, next, run, f, toward, on, out, here);
+        let t = sets::lowest(there) as u8;
+        here = ar(
+            image,
+            table,
+            next,
+            entries,
+            side,
+            write,
+            e,
+            env,
+            stop,
+            longer,
+            t,
+            left - 1,
+            out,
+            here,
+        );
         there = sets::rest(there);
+    }
+    here
+}
+
+// EU: a at each stage of a walk, which goes on at the successor fewest steps from a now, and there b.
+fn eu(
+    image: &[u8],
+    table: &[u8],
+    next: &[u64; setup::NEXT],
+    entries: &[u8; setup::ENTRIES],
+    side: u8,
+    write: bool,
+    e: u8,
+    env: Env,
+    out: &mut [u8],
+    at: usize,
+) -> usize
+    requires { ⌜ InHand (now image) (now table) (now next) (now entries) side e env EU ⌝ }
+    ensures { λ r. ⌜ Wrote write (entrySteps (now (image .entry)) (now (table .entry)) side e (envOf env)) at (now (out .entry)) (now (out .exit)) r ⌝ }
+{
+    if out.len() < at {
+        return out.len() + 1;
+    }
+    let f = setup::entry_at(entries, e);
+    let n = byte(image, 5) as usize;
+    let mut toward = [0u8; sets::WIDTH];
+    let now = guide::eu(
+        image,
+        table,
+        next,
+        n,
+        side,
+        f.a,
+        f.x,
+        f.b,
+        f.y,
+        env,
+        &mut toward,
+    );
+    let mut s = env::stage_of(f.t, env);
+    let mut left = n + 1;
+    let mut here = at;
+    while 0 < left {
+        if sets::has(now, s as usize) {
+            let on = put(out, write, here, code_of(Rule::EuNow));
+            let to = env.bound(f.y, s);
+            return formula(image, table, next, entries, side, write, f.b, to, out, on);
+        }
+        let c = toward[s as usize];
+        let on = put(out, write, here, code_of(Rule::EuLater(c)));
+        let chosen = put(out, write, on, c);
+        let to = env.bound(f.x, s);
+        here = formula(
+            image,
+            table,
+            next,
+            entries,
+            side,
+            write,
+            f.a,
+            to,
+            out,
+            chosen,
+        );
+        s = c;
+        left = left - 1;
     }
     here
 }

@@ -39,13 +39,20 @@ subset-requires c κs = search needs
 
 returns : tie.Need-returns Inv-loop μ-loop
 returns c =
-    let image = c .before .before .before .before .before .before .before .before .args .image .now in
-    let all = has-all image _ _ (c .before .before .before .before .before .before .byte .ensures) (c .before .before .before .before .before .before .before .before .pre .stages) (c .before .before .before .before .before .below .ensures) in
+    let args = c .before .before .before .before .before .before .before .before .args in
+    let pre = c .before .before .before .before .before .before .before .before .pre in
+    let byte = c .before .before .before .before .before .before .byte in
+    let below = c .before .before .before .before .before .below in
+    let turn = c .before .before .before .before .loop in
+    let set = c .before .before .set in
+    let subset = c .before .subset in
+    let image = args .image .now in
+    let all = has-all image _ _ (byte .ensures) (pre .stages) (below .ensures) in
     record {
-      most = omega (arith, c .before .before .before .before .before .before .byte .ensures, c .before .before .before .before .loop .inv .0);
-      low = c .before .before .before .before .loop .inv .1;
-      some = c .before .before .before .before .loop .inv .2;
-      stops = λ h. inl (some-high image _ _ _ (c .before .before .set .ensures) all (denied (c .before .subset .result) _ (c .before .subset .ensures) (c .if1 .taken)));
+      most = omega (arith, byte .ensures, turn .inv .0);
+      low = turn .inv .1;
+      some = turn .inv .2;
+      stops = λ h. inl (some-high image _ _ _ (set .ensures) all (denied (subset .result) _ (subset .ensures) (c .if1 .taken)));
     }
 
 is-empty-requires : tie.Need-is-empty-requires Inv-loop μ-loop
@@ -53,11 +60,15 @@ is-empty-requires c κs = search needs
 
 returns-2 : tie.Need-returns-2 Inv-loop μ-loop
 returns-2 c =
+    let byte = c .before .before .before .before .before .before .before .before .byte in
+    let turn = c .before .before .before .before .before .before .loop in
+    let set = c .before .before .before .before .set in
+    let is-empty = c .before .is-empty in
     record {
-      most = omega (arith, c .before .before .before .before .before .before .before .before .byte .ensures, c .before .before .before .before .before .before .loop .inv .0);
-      low = c .before .before .before .before .before .before .loop .inv .1;
-      some = c .before .before .before .before .before .before .loop .inv .2;
-      stops = λ h. inr (subst Empty (c .before .before .before .before .set .ensures) (decided _ (c .before .is-empty .ensures) (c .if2 .taken)));
+      most = omega (arith, byte .ensures, turn .inv .0);
+      low = turn .inv .1;
+      some = turn .inv .2;
+      stops = λ h. inr (subst Empty (set .ensures) (decided _ (is-empty .ensures) (c .if2 .taken)));
     }
 
 add-i : tie.Need-add-i Inv-loop μ-loop
@@ -68,20 +79,31 @@ loop-less c = search needs
 
 loop-again : tie.Need-loop-again Inv-loop μ-loop
 loop-again c =
-    let image = c .before .before .before .before .before .before .before .before .before .before .args .image .now in
-    let all = has-all image _ _ (c .before .before .before .before .before .before .before .before .byte .ensures) (c .before .before .before .before .before .before .before .before .before .before .pre .stages) (c .before .before .before .before .before .before .before .below .ensures) in (
+    let args = c .before .before .before .before .before .before .before .before .before .before .args in
+    let pre = c .before .before .before .before .before .before .before .before .before .before .pre in
+    let byte = c .before .before .before .before .before .before .before .before .byte in
+    let below = c .before .before .before .before .before .before .before .below in
+    let turn = c .before .before .before .before .before .before .loop in
+    let set = c .before .before .before .before .set in
+    let subset = c .before .before .before .subset in
+    let if1 = c .before .before .if1 in
+    let is-empty = c .before .is-empty in
+    let image = args .image .now in
+    let all = has-all image _ _ (byte .ensures) (pre .stages) (below .ensures) in (
       omega arith,
-      below-more _ _ (c .before .before .before .before .before .before .loop .inv .1) (none-high image _ _ _ (c .before .before .before .before .set .ensures) all (granted (c .before .before .before .subset .result) _ (c .before .before .before .subset .ensures) (c .before .before .if1 .left))),
-      below-more _ _ (c .before .before .before .before .before .before .loop .inv .2) (subst (λ (s : ℕ). Empty s → ⊥) (c .before .before .before .before .set .ensures) (refuted _ (c .before .is-empty .ensures) (c .if2 .left))),
+      below-more _ _ (turn .inv .1) (none-high image _ _ _ (set .ensures) all (granted (subset .result) _ (subset .ensures) (if1 .left))),
+      below-more _ _ (turn .inv .2) (subst (λ (s : ℕ). Empty s → ⊥) (set .ensures) (refuted _ (is-empty .ensures) (c .if2 .left))),
     )
 
 returns-3 : tie.Need-returns-3 Inv-loop μ-loop
 returns-3 c =
+    let byte = c .before .before .before .byte in
+    let turn = c .before .loop in
     record {
-      most = omega (arith, c .before .before .before .byte .ensures);
-      low = λ k h. c .before .loop .inv .1 k (omega arith);
-      some = λ k h. c .before .loop .inv .2 k (omega arith);
-      stops = λ h. absurd (omega (arith, c .before .before .before .byte .ensures));
+      most = omega (arith, byte .ensures);
+      low = λ k h. turn .inv .1 k (omega arith);
+      some = λ k h. turn .inv .2 k (omega arith);
+      stops = λ h. absurd (omega (arith, byte .ensures));
     }
 
 pub plain-sets-spec : {M : Type 1} → statement M

@@ -45,10 +45,16 @@ returns-3 c =
     )
 
 plain-sets-requires : tie.Need-plain-sets-requires
-plain-sets-requires c κs = granted (c .before .before .before .sizes-fit .result) _ (c .before .before .before .sizes-fit .ensures) (c .before .before .if2 .left)
+plain-sets-requires c κs =
+    let sizes-fit = c .before .before .before .sizes-fit in
+    let if2 = c .before .before .if2 in
+    granted (sizes-fit .result) _ (sizes-fit .ensures) (if2 .left)
 
 high-bit-requires : tie.Need-high-bit-requires
-high-bit-requires c κs = (granted (c .before .before .before .before .sizes-fit .result) _ (c .before .before .before .before .sizes-fit .ensures) (c .before .before .before .if2 .left), c .plain-sets .ensures)
+high-bit-requires c κs =
+    let sizes-fit = c .before .before .before .before .sizes-fit in
+    let if2 = c .before .before .before .if2 in
+    (granted (sizes-fit .result) _ (sizes-fit .ensures) (if2 .left), c .plain-sets .ensures)
 
 returns-4 : tie.Need-returns-4
 returns-4 c =

@@ -16,11 +16,17 @@ nested-requires c κs = search needs
 
 returns-2 : tie.Need-returns-2
 returns-2 c =
-    let image = c .before .before .before .before .before .before .before .args .image .now in
-    record { root = λ flag. c .before .before .if1 .left (omega (arith, c .before .before .before .byte .ensures)); deep = omega (arith, c .before .nested .ensures .is image) }
+    let args = c .before .before .before .before .before .before .before .args in
+    let byte = c .before .before .before .byte in
+    let if1 = c .before .before .if1 in
+    let nested = c .before .nested in
+    record { root = λ flag. if1 .left (omega (arith, byte .ensures)); deep = omega (arith, nested .ensures .is (args .image .now)) }
 
 returns-3 : tie.Need-returns-3
-returns-3 c = let image = c .before .before .before .before .before .before .before .args .image .now in λ root. omega (arith, c .before .nested .ensures .is image, root .deep)
+returns-3 c =
+    let args = c .before .before .before .before .before .before .before .args in
+    let nested = c .before .nested in
+    λ root. omega (arith, nested .ensures .is (args .image .now), root .deep)
 
 pub deep-root-spec : {M : Type 1} → statement M
 deep-root-spec = tie.close (tie.spec byte-requires returns nested-requires returns-2 returns-3)

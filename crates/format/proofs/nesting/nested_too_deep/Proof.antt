@@ -27,7 +27,10 @@ deep-root-requires c κs = search needs
 
 returns : tie.Need-returns Inv-loop μ-loop
 returns c =
-    record { entry = c .before .before .before .loop .e; below = omega (arith, c .before .before .before .before .byte .ensures); deep = (decided _ (c .before .deep-root .ensures) (c .if1 .taken)) .deep }
+    let turn = c .before .before .before .loop in
+    let byte = c .before .before .before .before .byte in
+    let deep-root = c .before .deep-root in
+    record { entry = turn .e; below = omega (arith, byte .ensures); deep = (decided _ (deep-root .ensures) (c .if1 .taken)) .deep }
 
 add-e : tie.Need-add-e Inv-loop μ-loop
 add-e c = search needs
@@ -41,7 +44,10 @@ loop-again c = (omega arith, below-more _ _ (c .before .before .before .loop .in
 returns-2 : tie.Need-returns-2 Inv-loop μ-loop
 returns-2 c =
     let args = c .before .before .before .before .before .before .args in
-    none-deep (args .image .now) (args .table .now) (args .seen .now) (c .before .before .before .before .before .before .pre) (λ k h. c .before .loop .inv .1 k (omega (arith, c .before .before .byte .ensures)))
+    let pre = c .before .before .before .before .before .before .pre in
+    let turn = c .before .loop in
+    let byte = c .before .before .byte in
+    none-deep (args .image .now) (args .table .now) (args .seen .now) (pre) (λ k h. turn .inv .1 k (omega (arith, byte .ensures)))
 
 pub nested-too-deep-spec : {M : Type 1} → statement M
 nested-too-deep-spec =

@@ -9,13 +9,19 @@ below-requires : tie.Need-below-requires
 below-requires c κs = search needs
 
 settle-requires : tie.Need-settle-requires
-settle-requires c κs = (c .before .before .before .before .pre .0, c .before .before .before .before .pre .1, inside-all (c .before .below .ensures))
+settle-requires c κs =
+    let pre = c .before .before .before .before .pre in
+    (pre .0, pre .1, inside-all (c .before .below .ensures))
 
 same-length : tie.Need-same-length
 same-length c = search needs
 
 returns : tie.Need-returns
-returns c = fill-each (c .before .before .before .before .before .before .before .args .next .now) (c .before .before .before .before .before .before .before .args .n) _ _ (c .before .before .before .before .before .before .before .pre .0) (c .before .before .before .before .below .ensures) (c .before .before .settle .ensures)
+returns c =
+    let args = c .before .before .before .before .before .before .before .args in
+    let pre = c .before .before .before .before .before .before .before .pre in
+    let below = c .before .before .before .before .below in
+    fill-each (args .next .now) (args .n) _ _ (pre .0) (below .ensures) (c .before .before .settle .ensures)
 
 pub fill-spec : {M : Type 1} → statement M
 fill-spec = tie.close (tie.spec below-requires settle-requires same-length returns)

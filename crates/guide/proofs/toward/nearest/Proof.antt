@@ -24,7 +24,9 @@ below-requires : tie.Need-below-requires Inv-loop μ-loop
 below-requires c κs = search needs
 
 loop-holds : tie.Need-loop-holds Inv-loop μ-loop
-loop-holds c = (search needs, search needs, λ G R. nearing-start R _ _ (c .below .ensures) (c .before .before .before .pre .2))
+loop-holds c =
+    let pre = c .before .before .before .pre in
+    (search needs, search needs, λ G R. nearing-start R _ _ (c .below .ensures) (pre .2))
 
 some-next-among-requires : tie.Need-some-next-among-requires Inv-loop μ-loop
 some-next-among-requires c κs = search needs
@@ -33,14 +35,21 @@ is-empty-requires : tie.Need-is-empty-requires Inv-loop μ-loop
 is-empty-requires c κs = search needs
 
 same-length : tie.Need-same-length Inv-loop μ-loop
-same-length c = c .before .before .before .before .loop .inv .1
+same-length c =
+    let loop = c .before .before .before .before .loop in
+    loop .inv .1
 
 returns : tie.Need-returns Inv-loop μ-loop
 returns c =
-    λ G R. nearing-rest R _ _ _ (c .before .before .before .before .loop .inv .2 G R) (c .before .before .some-next-among .ensures) (decided _ (c .before .is-empty .ensures) (c .if1 .taken))
+    let loop = c .before .before .before .before .loop in
+    λ G R. nearing-rest R _ _ _ (loop .inv .2 G R) (c .before .before .some-next-among .ensures) (decided _ (c .before .is-empty .ensures) (c .if1 .taken))
 
 settle-requires : tie.Need-settle-requires Inv-loop μ-loop
-settle-requires c κs = (c .before .before .before .before .before .before .before .before .before .pre .0, omega (arith, c .before .before .before .before .before .loop .inv .1, c .before .before .before .before .before .before .before .before .before .pre .1), c .before .before .before .some-next-among .ensures .inside)
+settle-requires c κs =
+    let pre = c .before .before .before .before .before .before .before .before .before .pre in
+    let loop = c .before .before .before .before .before .loop in
+    let some-next-among = c .before .before .before .some-next-among in
+    (pre .0, omega (arith, loop .inv .1, pre .1), some-next-among .ensures .inside)
 
 minus-requires : tie.Need-minus-requires Inv-loop μ-loop
 minus-requires c κs = search needs
@@ -59,12 +68,17 @@ loop-less c = search needs
 
 loop-again : tie.Need-loop-again Inv-loop μ-loop
 loop-again c =
-    let inv = c .before .before .before .before .before .before .before .before .before .before .before .loop .inv in
-    let new = c .before .before .before .before .before .before .before .before .before .some-next-among in
-    let settle = c .before .before .before .before .before .settle in (
+    let back = c .before .before .before .before .before .before .before .before .before .before in
+    let loop = back .before .loop in
+    let loop-test = back .loop-test in
+    let some-next-among = c .before .before .before .before .before .before .before .before .before .some-next-among in
+    let settle = c .before .before .before .before .before .settle in
+    let inv = loop .inv in
+    let new = some-next-among in
+    let settle = settle in (
       search needs,
       settle .ensures .size ∙ inv .1,
-      λ G R. nearing-more R _ _ _ (inv .2 G R) (new .ensures) (c .before .before .before .before .before .before .before .before .before .before .loop-test .taken) (settle .ensures) (c .before .before .minus .ensures)
+      λ G R. nearing-more R _ _ _ (inv .2 G R) (new .ensures) (loop-test .taken) (settle .ensures) (c .before .before .minus .ensures)
           (c .before .common .ensures) (c .union .ensures),
     )
 

@@ -28,35 +28,52 @@ lowest-requires : tie.Need-lowest-requires Inv-loop μ-loop
 lowest-requires c κs = search needs
 
 lowest-next-requires : tie.Need-lowest-next-requires Inv-loop μ-loop
-lowest-next-requires c κs = c .before .before .before .before .before .before .pre .0
+lowest-next-requires c κs =
+    let pre = c .before .before .before .before .before .before .pre in
+    pre .0
 
 slice-write-toward : tie.Need-slice-write-toward Inv-loop μ-loop
 slice-write-toward c =
-    let e = c .before .before .before .is-empty in
-    let below = settle-stage _ _ _ _ (c .before .before .before .before .loop .inv)
+    let pre = c .before .before .before .before .before .before .before .pre in
+    let loop = c .before .before .before .before .loop in
+    let is-empty = c .before .before .before .is-empty in
+    let e = is-empty in
+    let below = settle-stage _ _ _ _ (loop .inv)
     (record { some = refuted _ (e .ensures) (not-true (e .result) (c .before .before .if1 .taken)); lowest = c .before .lowest .ensures; others = refl }) in
-    omega (arith, below, c .before .before .before .before .loop .inv .filled .size, c .before .before .before .before .before .before .before .pre .1)
+    omega (arith, below, loop .inv .filled .size, pre .1)
 
 rest-requires : tie.Need-rest-requires Inv-loop μ-loop
 rest-requires c κs = search needs
 
 loop-less : tie.Need-loop-less Inv-loop μ-loop
 loop-less c =
-    let e = c .before .before .before .before .is-empty in
-    walk-falls (record { some = refuted _ (e .ensures) (not-true (e .result) (c .before .before .before .if1 .taken)); lowest = c .before .before .lowest .ensures; others = c .rest .ensures })
+    let is-empty = c .before .before .before .before .is-empty in
+    let if1 = c .before .before .before .if1 in
+    let e = is-empty in
+    walk-falls (record {
+      some = refuted _ (e .ensures) (not-true (e .result) (if1 .taken));
+      lowest = c .before .before .lowest .ensures;
+      others = c .rest
+          .ensures;
+    })
 
 loop-again : tie.Need-loop-again Inv-loop μ-loop
 loop-again c =
-    let e = c .before .before .before .before .is-empty in
-    settle-turn _ _ _ _ (c .before .before .before .before .before .loop .inv)
-    (record { some = refuted _ (e .ensures) (not-true (e .result) (c .before .before .before .if1 .taken)); lowest = c .before .before .lowest .ensures; others = c .rest .ensures })
-    _ (c .before .before .before .before .before .before .before .before .pre .1) (c .before .lowest-next .ensures)
+    let pre = c .before .before .before .before .before .before .before .before .pre in
+    let loop = c .before .before .before .before .before .loop in
+    let is-empty = c .before .before .before .before .is-empty in
+    let if1 = c .before .before .before .if1 in
+    let e = is-empty in
+    settle-turn _ _ _ _ (loop .inv)
+    (record { some = refuted _ (e .ensures) (not-true (e .result) (if1 .taken)); lowest = c .before .before .lowest .ensures; others = c .rest .ensures })
+    _ (pre .1) (c .before .lowest-next .ensures)
 
 same-length : tie.Need-same-length Inv-loop μ-loop
 same-length c = c .before .before .loop .inv .filled .size
 
 returns : tie.Need-returns Inv-loop μ-loop
-returns c = settle-end _ _ _ _ (c .before .before .loop .inv) (decided _ (c .before .is-empty .ensures) (not-false (c .before .is-empty .result) (c .if1 .left)))
+returns c =
+    settle-end _ _ _ _ (c .before .before .loop .inv) (decided _ (c .before .is-empty .ensures) (not-false (c .before .is-empty .result) (c .if1 .left)))
 
 pub settle-spec : {M : Type 1} → statement M
 settle-spec =

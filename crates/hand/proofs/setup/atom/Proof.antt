@@ -38,14 +38,25 @@ has-requires-2 c κs = search needs
 returns : tie.Need-returns
 returns c =
     let args = c .before .before .before .before .before .before .before .before .args in
-    from-two (args .sets .now) (args .entries .now) (args .e) (envOf (args .env)) (c .before .before .before .before .before .before .before .entry-at .ensures .is) (c .before .before .before .before .before .before .stage-of .ensures) (c .before .before .before .before .if1 .taken)
-    (c .before .before .before .stage-of2 .ensures) (c .before .set .ensures) (c .has .ensures)
+    let entry-at = c .before .before .before .before .before .before .before .entry-at in
+    let stage-of = c .before .before .before .before .before .before .stage-of in
+    let if1 = c .before .before .before .before .if1 in
+    let stage-of2 = c .before .before .before .stage-of2 in
+    let of-row = c .before .set in
+    let has = c .has in
+    from-two (args .sets .now) (args .entries .now) (args .e) (envOf (args .env)) (entry-at .ensures .is) (stage-of .ensures) (if1 .taken)
+    (stage-of2 .ensures) (of-row .ensures) (has .ensures)
 
 returns-2 : tie.Need-returns-2
 returns-2 c =
     let args = c .before .before .before .before .before .before .args in
-    from-one (args .sets .now) (args .entries .now) (args .e) (envOf (args .env)) (c .before .before .before .before .before .entry-at .ensures .is) (c .before .before .before .before .stage-of .ensures) (c .before .before .if1 .left)
-    (c .before .set2 .ensures) (c .has2 .ensures)
+    let entry-at = c .before .before .before .before .before .entry-at in
+    let stage-of = c .before .before .before .before .stage-of in
+    let if1 = c .before .before .if1 in
+    let set2 = c .before .set2 in
+    let has2 = c .has2 in
+    from-one (args .sets .now) (args .entries .now) (args .e) (envOf (args .env)) (entry-at .ensures .is) (stage-of .ensures) (if1 .left)
+    (set2 .ensures) (has2 .ensures)
 
 pub atom-spec : {M : Type 1} → statement M
 atom-spec =

@@ -46,10 +46,19 @@ add-t15 c = search needs
 
 returns : tie.Need-returns
 returns c =
+    let field = c .before .before .before .before .before .before .before .before .before .before .field in
+    let field2 = c .before .before .before .before .before .before .before .before .before .field2 in
+    let field3 = c .before .before .before .before .before .before .before .before .field3 in
+    let field4 = c .before .before .before .before .before .before .before .field4 in
+    let field5 = c .before .before .before .before .before .before .field5 in
+    let field6 = c .before .before .before .before .before .field6 in
+    let field7 = c .before .before .before .before .field7 in
+    let field8 = c .before .before .before .field8 in
     let high = c .before .before .wide in
+    let field9 = c .before .field9 in
     let low = c .wide2 in
-    read-entry _ _ _ (c .before .before .before .before .before .before .before .before .before .before .field .ensures) (c .before .before .before .before .before .before .before .before .before .field2 .ensures) (c .before .before .before .before .before .before .before .before .field3 .ensures) (c .before .before .before .before .before .before .before .field4 .ensures) (c .before .before .before .before .before .before .field5 .ensures) (c .before .before .before .before .before .field6 .ensures) (c .before .before .before .before .field7 .ensures)
-    (high .ensures .0 ∙ c .before .before .before .field8 .ensures) (low .ensures .0 ∙ c .before .field9 .ensures) (high .ensures .1) (low .ensures .1) refl
+    read-entry _ _ _ (field .ensures) (field2 .ensures) (field3 .ensures) (field4 .ensures) (field5 .ensures) (field6 .ensures) (field7 .ensures)
+    (high .ensures .0 ∙ field8 .ensures) (low .ensures .0 ∙ field9 .ensures) (high .ensures .1) (low .ensures .1) refl
 
 pub entry-at-spec : {M : Type 1} → statement M
 entry-at-spec =

@@ -7,7 +7,9 @@ use Rattle.hand.proofs.setup.place.Statement.{statement}
 use Rattle.hand.proofs.setup.place.Tie as tie
 
 returns : tie.Need-returns
-returns c = placed-past _ _ (c .if1 .taken)
+returns c =
+    let if1 = c .if1 in
+    placed-past _ _ (if1 .taken)
 
 put-requires : tie.Need-put-requires
 put-requires c κs = search needs
@@ -31,26 +33,98 @@ put-requires-7 : tie.Need-put-requires-7
 put-requires-7 c κs = search needs
 
 cast-put : tie.Need-cast-put
-cast-put c = record { fits = omega (arith, c .before .before .before .before .before .before .before .before .before .before .before .before .before .before .before .before .before .before .before .before .before .before .before .before .before .before .before .before .before .before .before .before .pre .1) }
+cast-put c =
+    let place1 = c .before .before .before .before .before .before .before .before .before .before .before .before .before .before .before .before in
+    let place2 = place1 .before .before .before .before .before .before .before .before .before .before .before .before .before .before .before .before in
+    record { fits = omega (arith, place2 .pre .1) }
 
 put-requires-8 : tie.Need-put-requires-8
-put-requires-8 c κs = (omega (arith, c .before .before .before .before .before .before .before .before .before .before .before .before .before .before .before .before .before .before .before .before .before .before .before .before .before .before .before .before .before .before .before .before .pre .0, c .before .before .before .before .before .before .before .before .before .before .before .before .before .before .before .before .before .before .before .before .before .before .before .before .before .before .before .before .put .ensures .size, c .before .before .before .before .before .before .before .before .before .before .before .before .before .before .before .before .before .before .before .before .before .before .before .before .put2 .ensures .size, c .before .before .before .before .before .before .before .before .before .before .before .before .before .before .before .before .before .before .before .before .put3 .ensures .size, c .before .before .before .before .before .before .before .before .before .before .before .before .before .before .before .before .put4 .ensures .size, c .before .before .before .before .before .before .before .before .before .before .before .before .put5 .ensures .size, c .before .before .before .before .before .before .before .before .put6 .ensures .size, c .before .before .before .before .put7 .ensures .size), (omega arith, omega (arith, c .before .before .before .before .before .before .before .before .before .before .before .before .before .before .before .before .before .before .before .before .before .before .before .before .before .before .before .before .before .before .if1 .left)))
+put-requires-8 c κs =
+    let place1 = c .before .before .before .before in
+    let place2 = place1 .before .before .before .before in
+    let place3 = place2 .before .before .before .before in
+    let place4 = place3 .before .before .before .before in
+    let place5 = place4 .before .before .before .before in
+    let place6 = place5 .before .before .before .before in
+    let place7 = place6 .before .before .before .before in
+    let place8 = place7 .before .before in
+    let place9 = place8 .before .before in (
+      omega (
+        arith,
+        place9 .pre .0,
+        place7 .put .ensures .size,
+        place6 .put2 .ensures .size,
+        place5 .put3 .ensures .size,
+        place4 .put4 .ensures .size,
+        place3 .put5 .ensures .size,
+        place2 .put6 .ensures .size,
+        place1 .put7 .ensures .size,
+      ),
+      (omega arith, omega (arith, place8 .if1 .left)),
+    )
 
 cast-put-2 : tie.Need-cast-put-2
 cast-put-2 c = search needs
 
 put-requires-9 : tie.Need-put-requires-9
-put-requires-9 c κs = (omega (arith, c .before .before .before .before .before .before .before .before .before .before .before .before .before .before .before .before .before .before .before .before .before .before .before .before .before .before .before .before .before .before .before .before .before .before .before .before .before .pre .0, c .before .before .before .before .before .before .before .before .before .before .before .before .before .before .before .before .before .before .before .before .before .before .before .before .before .before .before .before .before .before .before .before .before .put .ensures .size, c .before .before .before .before .before .before .before .before .before .before .before .before .before .before .before .before .before .before .before .before .before .before .before .before .before .before .before .before .before .put2 .ensures .size, c .before .before .before .before .before .before .before .before .before .before .before .before .before .before .before .before .before .before .before .before .before .before .before .before .before .put3 .ensures .size, c .before .before .before .before .before .before .before .before .before .before .before .before .before .before .before .before .before .before .before .before .before .put4 .ensures .size, c .before .before .before .before .before .before .before .before .before .before .before .before .before .before .before .before .before .put5 .ensures .size, c .before .before .before .before .before .before .before .before .before .before .before .before .before .put6 .ensures .size, c .before .before .before .before .before .before .before .before .before .put7 .ensures .size, c .before .before .before .before .put8 .ensures .size), (omega arith, omega (arith, c .before .before .before .before .before .before .before .before .before .before .before .before .before .before .before .before .before .before .before .before .before .before .before .before .before .before .before .before .before .before .before .before .before .before .before .if1 .left)))
+put-requires-9 c κs =
+    let place1 = c .before .before .before .before in
+    let place2 = place1 .before .before .before .before .before in
+    let place3 = place2 .before .before .before .before in
+    let place4 = place3 .before .before .before .before in
+    let place5 = place4 .before .before .before .before in
+    let place6 = place5 .before .before .before .before in
+    let place7 = place6 .before .before .before .before in
+    let place8 = place7 .before .before .before .before in
+    let place9 = place8 .before .before in
+    let place10 = place9 .before .before in (
+      omega (
+        arith,
+        place10 .pre .0,
+        place8 .put .ensures .size,
+        place7 .put2 .ensures .size,
+        place6 .put3 .ensures .size,
+        place5 .put4 .ensures .size,
+        place4 .put5 .ensures .size,
+        place3 .put6 .ensures .size,
+        place2 .put7 .ensures .size,
+        place1 .put8 .ensures .size,
+      ),
+      (omega arith, omega (arith, place9 .if1 .left)),
+    )
 
 same-length : tie.Need-same-length
-same-length c = c .before .before .put9 .ensures .size ∙ c .before .before .before .before .before .before .before .put8 .ensures .size ∙ c .before .before .before .before .before .before .before .before .before .before .before .before .put7 .ensures .size ∙ c .before .before .before .before .before .before .before .before .before .before .before .before .before .before .before .before .put6 .ensures .size ∙ c .before .before .before .before .before .before .before .before .before .before .before .before .before .before .before .before .before .before .before .before .put5 .ensures .size ∙ c .before .before .before .before .before .before .before .before .before .before .before .before .before .before .before .before .before .before .before .before .before .before .before .before .put4 .ensures .size ∙ c .before .before .before .before .before .before .before .before .before .before .before .before .before .before .before .before .before .before .before .before .before .before .before .before .before .before .before .before .put3 .ensures .size ∙ c .before .before .before .before .before .before .before .before .before .before .before .before .before .before .before .before .before .before .before .before .before .before .before .before .before .before .before .before .before .before .before .before .put2 .ensures .size ∙ c .before .before .before .before .before .before .before .before .before .before .before .before .before .before .before .before .before .before .before .before .before .before .before .before .before .before .before .before .before .before .before .before .before .before .before .before .put .ensures .size
+same-length c =
+    let place1 = c .before .before in
+    let place2 = place1 .before .before .before .before .before in
+    let place3 = place2 .before .before .before .before .before in
+    let place4 = place3 .before .before .before .before in
+    let place5 = place4 .before .before .before .before in
+    let place6 = place5 .before .before .before .before in
+    let place7 = place6 .before .before .before .before in
+    let place8 = place7 .before .before .before .before in
+    let place9 = place8 .before .before .before .before in
+    place1 .put9 .ensures .size ∙ place2 .put8 .ensures .size ∙ place3 .put7 .ensures .size ∙ place4 .put6 .ensures .size
+    ∙ place5 .put5 .ensures .size ∙ place6 .put4 .ensures .size
+    ∙ place7 .put3 .ensures .size ∙ place8 .put2 .ensures .size ∙ place9 .put .ensures .size
 
 returns-2 : tie.Need-returns-2
 returns-2 c =
-    let none = filled-none {e = c .before .before .before .before .before .before .before .before .before .before .before .before .before .before .before .before .before .before .before .before .before .before .before .before .before .before .before .before .before .before .before .before .before .before .before .before .before .before .before .before .args .e} _ _ (omega (arith, c .before .before .before .before .before .before .before .before .before .before .before .before .before .before .before .before .before .before .before .before .before .before .before .before .before .before .before .before .before .before .before .before .before .before .before .before .before .before .if1 .left)) in
-    let three = filled-more (filled-more (filled-more none refl (c .before .before .before .before .before .before .before .before .before .before .before .before .before .before .before .before .before .before .before .before .before .before .before .before .before .before .before .before .before .before .before .before .before .before .before .before .put .ensures)) refl (c .before .before .before .before .before .before .before .before .before .before .before .before .before .before .before .before .before .before .before .before .before .before .before .before .before .before .before .before .before .before .before .before .put2 .ensures)) refl (c .before .before .before .before .before .before .before .before .before .before .before .before .before .before .before .before .before .before .before .before .before .before .before .before .before .before .before .before .put3 .ensures) in
-    let six = filled-more (filled-more (filled-more three refl (c .before .before .before .before .before .before .before .before .before .before .before .before .before .before .before .before .before .before .before .before .before .before .before .before .put4 .ensures)) refl (c .before .before .before .before .before .before .before .before .before .before .before .before .before .before .before .before .before .before .before .before .put5 .ensures)) refl (c .before .before .before .before .before .before .before .before .before .before .before .before .before .before .before .before .put6 .ensures) in
-    placed _ (filled-more (filled-more (filled-more six refl (c .before .before .before .before .before .before .before .before .before .before .before .before .put7 .ensures)) refl (c .before .before .before .before .before .before .before .put8 .ensures)) refl (c .before .before .put9 .ensures))
+    let place1 = c .before .before in
+    let place2 = place1 .before .before .before .before .before in
+    let place3 = place2 .before .before .before .before .before in
+    let place4 = place3 .before .before .before .before in
+    let place5 = place4 .before .before .before .before in
+    let place6 = place5 .before .before .before .before in
+    let place7 = place6 .before .before .before .before in
+    let place8 = place7 .before .before .before .before in
+    let place9 = place8 .before .before .before .before in
+    let place10 = place9 .before .before in
+    let place11 = place10 .before .before in
+    let none = filled-none {e = place11 .args .e} _ _ (omega (arith, place10 .if1 .left)) in
+    let three = filled-more (filled-more (filled-more none refl (place9 .put .ensures)) refl (place8 .put2 .ensures)) refl (place7 .put3 .ensures) in
+    let six = filled-more (filled-more (filled-more three refl (place6 .put4 .ensures)) refl (place5 .put5 .ensures)) refl (place4 .put6 .ensures) in
+    placed _ (filled-more (filled-more (filled-more six refl (place3 .put7 .ensures)) refl (place2 .put8 .ensures)) refl (place1 .put9 .ensures))
 
 pub place-spec : {M : Type 1} → statement M
 place-spec =

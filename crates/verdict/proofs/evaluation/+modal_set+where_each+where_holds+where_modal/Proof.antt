@@ -22,7 +22,7 @@ use Rattle.verdict.specs.Evaluation.{Collects, modalAt}
 use Rattle.verdict.specs.Kinds.{isFirst}
 use Rattle.verdict.proofs.CollectLaws.{collects-start, collects-take, collects-skip, collects-end}
 use Rattle.verdict.proofs.EvaluationLaws.{constant-arm, literal-arm, junction-arm, unary-arm, binary-arm, none-arm, unary-set, binary-set}
-use Rattle.verdict.proofs.EvaluationLaws.{no-set, each-turn, once-arm}
+use Rattle.verdict.proofs.EvaluationLaws.{settled-arm, no-set, each-turn, once-arm}
 use Rattle.verdict.proofs.EvaluationLaws.{ready-bound, ready-rule, unary-operand, binary-first, binary-second, junction-first, junction-second}
 use Rattle.verdict.proofs.atoms.where_in.Reads as where-in-reads
 use Rattle.verdict.proofs.atoms.where_literal.Reads as where-literal-reads
@@ -45,6 +45,7 @@ use Rattle.verdict.proofs.kinds.all_or_none.Reads as all-or-none-reads
 use Rattle.verdict.proofs.kinds.is_first.Reads as is-first-reads
 use Rattle.verdict.proofs.kinds.joined.Reads as joined-reads
 use Rattle.verdict.proofs.kinds.modal_of.Reads as modal-of-reads
+use Rattle.verdict.proofs.kinds.settled.Reads as settled-reads
 use Rattle.verdict.proofs.evaluation.+modal_set+where_each+where_holds+where_modal.{statement}
 use Rattle.verdict.proofs.evaluation.+modal_set+where_each+where_holds+where_modal.Tie.{close}
 
@@ -136,6 +137,8 @@ where-holds-claims t = (
   where-literal-reads.Learnt,
   where-holds-less t,
   where-holds.Post,
+  settled-reads.Asked,
+  settled-reads.Learnt,
   joined-reads.Asked,
   joined-reads.Learnt,
   where-modal-less t,
@@ -264,35 +267,23 @@ modal-set-returns-2 t c =
 
 modal-set-returns-3 : (t : ℕ) → modal-set-lts.Need-returns-3 (modal-set-claims t) (modal-set-at t) modal-set.Post
 modal-set-returns-3 t c =
-    let pre = c .before .before .before .before .before .before .before .before .before .pre in
-    let entry = c .before .before .before .before .before .entry in
-    let empty = c .before .before .before .empty in
     let arm = c .before .before in
-    no-set (pre .1) (entry .result) (modal-set-arm t arm (c .enum-told3 .given .1)) (λ k a b u. refl) (empty .ensures)
+    no-set (modal-set-start t arm .pre .1) _ (modal-set-arm t arm (c .enum-told3 .given .1)) (λ k a b u. refl) (arm .before .empty .ensures)
 
 modal-set-returns-4 : (t : ℕ) → modal-set-lts.Need-returns-4 (modal-set-claims t) (modal-set-at t) modal-set.Post
 modal-set-returns-4 t c =
-    let pre = c .before .before .before .before .before .before .before .before .before .pre in
-    let entry = c .before .before .before .before .before .entry in
-    let empty = c .before .before .before .empty in
     let arm = c .before .before in
-    no-set (pre .1) (entry .result) (modal-set-arm t arm (c .enum-told4 .given .1)) (λ k a b u. refl) (empty .ensures)
+    no-set (modal-set-start t arm .pre .1) _ (modal-set-arm t arm (c .enum-told4 .given .1)) (λ k a b u. refl) (arm .before .empty .ensures)
 
 modal-set-returns-5 : (t : ℕ) → modal-set-lts.Need-returns-5 (modal-set-claims t) (modal-set-at t) modal-set.Post
 modal-set-returns-5 t c =
-    let pre = c .before .before .before .before .before .before .before .before .before .pre in
-    let entry = c .before .before .before .before .before .entry in
-    let empty = c .before .before .before .empty in
     let arm = c .before .before in
-    no-set (pre .1) (entry .result) (modal-set-arm t arm (c .enum-told5 .given .1)) (λ k a b u. refl) (empty .ensures)
+    no-set (modal-set-start t arm .pre .1) _ (modal-set-arm t arm (c .enum-told5 .given .1)) (λ k a b u. refl) (arm .before .empty .ensures)
 
 modal-set-returns-6 : (t : ℕ) → modal-set-lts.Need-returns-6 (modal-set-claims t) (modal-set-at t) modal-set.Post
 modal-set-returns-6 t c =
-    let pre = c .before .before .before .before .before .before .before .before .before .pre in
-    let entry = c .before .before .before .before .before .entry in
-    let empty = c .before .before .before .empty in
     let arm = c .before .before in
-    no-set (pre .1) (entry .result) (modal-set-arm t arm (c .enum-told6 .given .1)) (λ k a b u. refl) (empty .ensures)
+    no-set (modal-set-start t arm .pre .1) _ (modal-set-arm t arm (c .enum-told6 .given .1)) (λ k a b u. refl) (arm .before .empty .ensures)
 
 abbrev where-each-Inv-loop : where-each-lts.InvT-loop
 where-each-Inv-loop image table next n e env x r found₀ s₀ found s = (s ≤ n) × Collects s (modalAt image table e env x) (number found)
@@ -412,11 +403,14 @@ where-holds-where-holds-requires t c κs =
     let o = junction-first (pre .1 .0) (where-holds-arm t arm (c .enum-told3 .given .1)) in
     (omega (arith, pre .0, o .0), (o .1, pre .1 .1))
 
+where-holds-settled-requires : (t : ℕ) → where-holds-lts.Need-settled-requires (where-holds-claims t) (where-holds-at t) where-holds.Post
+where-holds-settled-requires t c κs = c .before .before .before .before .before .before .before .before .before .before .pre .1 .0 .row .room
+
 where-holds-where-holds-requires-2 : (t : ℕ) → where-holds-lts.Need-where-holds-requires-2 (where-holds-claims t) (where-holds-at t) where-holds.Post
 where-holds-where-holds-requires-2 t c κs =
-    let pre = c .before .before .before .before .before .before .before .before .before .before .pre in
-    let arm = c .before .before .before in
-    let enum-told3 = c .before .enum-told3 in
+    let pre = c .before .before .before .before .before .before .before .before .before .before .before .before .pre in
+    let arm = c .before .before .before .before .before in
+    let enum-told3 = c .before .before .before .enum-told3 in
     let o = junction-second (pre .1 .0) (where-holds-arm t arm (enum-told3 .given .1)) in
     (omega (arith, pre .0, o .0), (o .1, pre .1 .1))
 
@@ -447,18 +441,14 @@ where-holds-empty-requires t c κs = search needs
 
 where-holds-returns : (t : ℕ) → where-holds-lts.Need-returns (where-holds-claims t) (where-holds-at t) where-holds.Post
 where-holds-returns t c =
-    let pre = c .before .before .before .before .before .before .before .before .before .before .pre in
     let arm = c .before .before .before in
-    let enum-told = c .before .enum-told in
-    constant-arm (pre .1 .0) _ (where-holds-arm t arm (enum-told .given .1)) (where-holds-first t arm)
+    constant-arm (where-holds-start t arm .pre .1 .0) _ (where-holds-arm t arm (c .before .enum-told .given .1)) (where-holds-first t arm)
     (c .all-or-none .ensures)
 
 where-holds-returns-2 : (t : ℕ) → where-holds-lts.Need-returns-2 (where-holds-claims t) (where-holds-at t) where-holds.Post
 where-holds-returns-2 t c =
-    let pre = c .before .before .before .before .before .before .before .before .before .before .pre in
     let arm = c .before .before .before in
-    let enum-told2 = c .before .enum-told2 in
-    literal-arm (pre .1 .0) _ (where-holds-arm t arm (enum-told2 .given .1)) (where-holds-first t arm)
+    literal-arm (where-holds-start t arm .pre .1 .0) _ (where-holds-arm t arm (c .before .enum-told2 .given .1)) (where-holds-first t arm)
     (c .where-literal .ensures)
 
 where-holds-returns-3 : (t : ℕ) → where-holds-lts.Need-returns-3 (where-holds-claims t) (where-holds-at t) where-holds.Post
@@ -467,30 +457,34 @@ where-holds-returns-3 t c =
     let arm = c .before .before .before .before .before in
     let enum-told3 = c .before .before .before .enum-told3 in
     let where-holds = c .before .before .where-holds in
+    let settled = c .before .settled in
+    settled-arm (pre .1 .0) _ _ _ _ (where-holds-arm t arm (enum-told3 .given .1)) (where-holds-first t arm)
+    (where-holds .ensures) (c .if1 .taken) (settled .ensures)
+
+where-holds-returns-4 : (t : ℕ) → where-holds-lts.Need-returns-4 (where-holds-claims t) (where-holds-at t) where-holds.Post
+where-holds-returns-4 t c =
+    let pre = c .before .before .before .before .before .before .before .before .before .before .before .before .before .before .pre in
+    let arm = c .before .before .before .before .before .before .before in
+    let enum-told3 = c .before .before .before .before .before .enum-told3 in
+    let where-holds = c .before .before .before .before .where-holds in
     let where-holds2 = c .before .where-holds2 in
     junction-arm (pre .1 .0) _ _ _ _ _ (where-holds-arm t arm (enum-told3 .given .1)) (where-holds-first t arm)
     (where-holds .ensures) (where-holds2 .ensures) (c .joined .ensures)
 
-where-holds-returns-4 : (t : ℕ) → where-holds-lts.Need-returns-4 (where-holds-claims t) (where-holds-at t) where-holds.Post
-where-holds-returns-4 t c =
-    let pre = c .before .before .before .before .before .before .before .before .before .before .pre in
-    let arm = c .before .before .before in
-    let enum-told4 = c .before .enum-told4 in
-    unary-arm (pre .1 .0) _ (where-holds-arm t arm (enum-told4 .given .1)) (c .where-modal .ensures)
-
 where-holds-returns-5 : (t : ℕ) → where-holds-lts.Need-returns-5 (where-holds-claims t) (where-holds-at t) where-holds.Post
 where-holds-returns-5 t c =
-    let pre = c .before .before .before .before .before .before .before .before .before .before .pre in
     let arm = c .before .before .before in
-    let enum-told5 = c .before .enum-told5 in
-    binary-arm (pre .1 .0) _ (where-holds-arm t arm (enum-told5 .given .1)) (c .where-modal2 .ensures)
+    unary-arm (where-holds-start t arm .pre .1 .0) _ (where-holds-arm t arm (c .before .enum-told4 .given .1)) (c .where-modal .ensures)
 
 where-holds-returns-6 : (t : ℕ) → where-holds-lts.Need-returns-6 (where-holds-claims t) (where-holds-at t) where-holds.Post
 where-holds-returns-6 t c =
-    let pre = c .before .before .before .before .before .before .before .before .before .before .pre in
     let arm = c .before .before .before in
-    let enum-told6 = c .before .enum-told6 in
-    none-arm (pre .1 .0) _ (where-holds-arm t arm (enum-told6 .given .1)) (c .empty .ensures)
+    binary-arm (where-holds-start t arm .pre .1 .0) _ (where-holds-arm t arm (c .before .enum-told5 .given .1)) (c .where-modal2 .ensures)
+
+where-holds-returns-7 : (t : ℕ) → where-holds-lts.Need-returns-7 (where-holds-claims t) (where-holds-at t) where-holds.Post
+where-holds-returns-7 t c =
+    let arm = c .before .before .before in
+    none-arm (where-holds-start t arm .pre .1 .0) _ (where-holds-arm t arm (c .before .enum-told6 .given .1)) (c .empty .ensures)
 
 where-modal-depends-requires : (t : ℕ) → where-modal-lts.Need-depends-requires (where-modal-claims t) (where-modal-at t) where-modal.Post
 where-modal-depends-requires t c κs = (ready-rule (c .before .before .before .pre .1 .0), c .before .before .before .pre .1 .1)
@@ -574,6 +568,7 @@ pub +modal-set+where-each+where-holds+where-modal-spec : {M : Type 1} → statem
     (where-holds-where-literal-requires t)
     (where-holds-enum-told-3 t)
     (where-holds-where-holds-requires t)
+    (where-holds-settled-requires t)
     (where-holds-where-holds-requires-2 t)
     (where-holds-joined-requires t)
     (where-holds-enum-told-4 t)
@@ -587,7 +582,8 @@ pub +modal-set+where-each+where-holds+where-modal-spec : {M : Type 1} → statem
     (where-holds-returns-3 t)
     (where-holds-returns-4 t)
     (where-holds-returns-5 t)
-    (where-holds-returns-6 t))
+    (where-holds-returns-6 t)
+    (where-holds-returns-7 t))
     (λ t. where-modal-lts.spec (where-modal-claims t) (where-modal-at t) where-modal.Post
     (where-modal-depends-requires t)
     (where-modal-where-each-requires t)
