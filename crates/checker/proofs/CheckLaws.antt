@@ -99,7 +99,7 @@ setup-lent {image} {table} {m = m} clear count-is m-is d p =
       all = all-sets {n = 1088} (sizes image image-clear) (stable (length-fits? image) (image-clear .1 .1 .0)) (omega arith) count-is d;
       few = ReadableLaws.entries image table (of-table image table clear) .most;
       entry = λ e h. p .entries e (omega arith)
-          (omega (arith, ReadableLaws.entries image table (of-table image table clear) .most)) (omega (arith, length-replicate {A = ℕ} entryBytes 0));
+          (omega (arith, ReadableLaws.entries image table (of-table image table clear) .most)) (length-replicate {A = ℕ} entryBytes 0);
       ruled = ruled image table clear;
     }
 

@@ -6,7 +6,7 @@
 --     placed, placed-past                          after the last the entry is there; past the end nothing changes
 --     made-atom, made-other                        the entry of a record
 --     read-entry                                   the entry of its fields
---     prepared-start, prepared-more, prepared-end, prepared-short
+--     prepared-start, prepared-more, prepared-end, prepared-other
 --                                                  a row that is filled
 --     prepared-once                                the entries are the only ones that are so
 --     from-two, from-one                           an entry's atom, as membership in one of its predicate's sets
@@ -137,16 +137,16 @@ module _ (image : List ℕ) (side : ℕ) (r : Record) {kind : ℕ} (is : kind �
 -- ---- a row of entries
 
 -- Before the first entry nothing is put in.
-pub prepared-start : (image table : List ℕ) (side : ℕ) (entries : List ℕ) → entryBytes ≤ length entries → Prepared image table 0 side entries entries
+pub prepared-start : (image table : List ℕ) (side : ℕ) (entries : List ℕ) → length entries ≡ entryBytes → Prepared image table 0 side entries entries
 prepared-start image table side entries room = record {
   entries = λ e h r l. absurd (omega arith);
   others = λ e h r. refl;
-  short = λ h. absurd (omega arith);
+  kept = λ h. absurd (h room);
   size = refl;
 }
 
 -- One entry more is put in.
-pub prepared-more : {image table before row after : List ℕ} {e side : ℕ} {p : Entry} → entryBytes ≤ length before
+pub prepared-more : {image table before row after : List ℕ} {e side : ℕ} {p : Entry} → length before ≡ entryBytes
     → Prepared image table e side before row → p ≡ entryOf image side (recordAt table e) → Placed row e p after
     → Prepared image table (e + 1) side before after
 prepared-more {image} {table} {before} {row} {after} {e} {side} room f is p = record {
@@ -155,7 +155,7 @@ prepared-more {image} {table} {before} {row} {after} {e} {side} room f is p = re
       (λ q. p .others k r q ∙ f .entries k (omega arith) r l)
       (same? k e);
   others = λ k h r. p .others k r (λ q. omega arith) ∙ f .others k (omega arith) r;
-  short = λ h. absurd (omega arith);
+  kept = λ h. absurd (h room);
   size = p .size ∙ f .size;
 }
 
@@ -166,12 +166,12 @@ prepared-end {image} {table} {before} {row} {m} {e} {side} l g f =
     let is : e ≡ m = omega arith in
     subst (λ (k : ℕ). Prepared image table k side before row) is f
 
--- Where there is no room nothing changes.
-pub prepared-short : (image table : List ℕ) (m side : ℕ) (entries : List ℕ) → length entries < entryBytes → Prepared image table m side entries entries
-prepared-short image table m side entries h = record {
-  entries = λ e l r g. absurd (omega arith);
+-- A row of another length does not change.
+pub prepared-other : (image table : List ℕ) (m side : ℕ) (entries : List ℕ) → length entries ≢ entryBytes → Prepared image table m side entries entries
+prepared-other image table m side entries h = record {
+  entries = λ e l r g. absurd (h g);
   others = λ e l r. refl;
-  short = λ g. refl;
+  kept = λ g. refl;
   size = refl;
 }
 
@@ -179,9 +179,9 @@ prepared-short image table m side entries h = record {
 pub prepared-once : {image table before a b : List ℕ} {m side : ℕ} → Prepared image table m side before a → Prepared image table m side before b
     → (e : ℕ) → e < mostEntries → entryAt a e ≡ entryAt b e
 prepared-once {before = before} {m = m} p q e h = ⊎-elim
-    (λ s. ap (λ (l : List ℕ). entryAt l e) (p .short s ∙ sym (q .short s)))
     (λ g. ⊎-elim (λ l. p .entries e l h g ∙ sym (q .entries e l h g)) (λ l. p .others e l h ∙ sym (q .others e l h)) (side? e m))
-    (side? (length before) entryBytes)
+    (λ s. ap (λ (l : List ℕ). entryAt l e) (p .kept s ∙ sym (q .kept s)))
+    (same? (length before) entryBytes)
 
 -- ---- an entry's atom, from a row of sets
 

@@ -89,11 +89,12 @@ pub record Placed (before : List ℕ) (e : ℕ) (p : Entry) (after : List ℕ) :
   pub others : (i : ℕ) → i < mostEntries → i ≢ e → entryAt after i ≡ entryAt before i
   pub size : length after ≡ length before
 
--- `after` is `before` with the first m entries of the table prepared on a side, where there is room.
+-- `after` is `before` with the first m entries of the table prepared on a side, in a row with room for just the entries of any table; another row is as
+-- it was.
 pub record Prepared (image table : List ℕ) (m side : ℕ) (before after : List ℕ) : Type 0 where
-  pub entries : (e : ℕ) → e < m → e < mostEntries → entryBytes ≤ length before → entryAt after e ≡ entryOf image side (recordAt table e)
+  pub entries : (e : ℕ) → e < m → e < mostEntries → length before ≡ entryBytes → entryAt after e ≡ entryOf image side (recordAt table e)
   pub others : (e : ℕ) → m ≤ e → e < mostEntries → entryAt after e ≡ entryAt before e
-  pub short : length before < entryBytes → after ≡ before
+  pub kept : length before ≢ entryBytes → after ≡ before
   pub size : length after ≡ length before
 
 -- Whether an entry's atom is true, from a row of sets: of arity 2, whether the second term's stage is in the set of the first's; of another, whether

@@ -68,12 +68,12 @@ pub fn set(sets: &[u64; SETS], i: usize) -> Set
     sets::row::load(sets, i)
 }
 
-// Prepares the first m entries of the table on a side, of which there are 64 at most; the others stay as they are. Where there is no room for the entries
-// of any table nothing changes.
+// Prepares the first m entries of the table on a side, of which there are 64 at most; the others stay as they are. Only a row with room for just the
+// entries of any table is filled, so that every byte of it belongs to an entry; another stays as it is.
 pub fn prepare(image: &[u8], table: &[u8], m: usize, side: u8, entries: &mut [u8])
     ensures { λ r. ⌜ Prepared (now (image .entry)) (now (table .entry)) m side (now (entries .entry)) (now (entries .exit)) ⌝ }
 {
-    if entries.len() < ENTRIES {
+    if entries.len() != ENTRIES {
         return;
     }
     for e in 0..m {

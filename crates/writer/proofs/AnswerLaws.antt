@@ -108,7 +108,7 @@ side-holds image table e env false t = subst T (sym (test-dual (graphOf image) (
 
 -- A question that was read, its row decoded and its entries prepared.
 pub question-holding : {image table next entries before blank : List ℕ} {q : Question} {side : ℕ} → QuestionRead image table (q .goal) (q .start) q
-    → width * words ≤ length before → Decoded image (q .shape .image .stages) before next → entryBytes ≤ length blank
+    → width * words ≤ length before → Decoded image (q .shape .image .stages) before next → length blank ≡ entryBytes
     → Prepared image table (q .shape .entries) side blank entries → side ≡ sideBy (truthOf image table (q .goal) (startEnv (q .start)))
     → Holding image table next entries side (q .goal) (startEnv (q .start))
 question-holding {image} {table} {next} {entries} {before} {blank} {q} {side} read long d wide p side-is =

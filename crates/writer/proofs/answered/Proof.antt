@@ -1,5 +1,6 @@
 -- `writer::answered` meets its contract: the row is decoded, the side that holds is found, the entries are prepared for it, and its certificate is
 -- counted and then written.
+use mathlib.Core.Path.{refl}
 use borrow.Author.Needs.{needs}
 use lib.Dec.{lit≤}
 use Rattle.verdict.proofs.AnswerLaws.{question-ready, question-row}
@@ -34,7 +35,7 @@ whole-requires c κs =
     let decode = c .before .before .before .before .before .before .before .before .before .decode in
     let side-of = c .before .before .before .before .before .before .side-of in
     let prepare = c .before .before .before .before .prepare in
-    question-holding (pre) (lit≤ tt) (decode .ensures) (lit≤ tt) (prepare .ensures) (side-of .ensures)
+    question-holding (pre) (lit≤ tt) (decode .ensures) refl (prepare .ensures) (side-of .ensures)
 
 same-length : tie.Need-same-length
 same-length c = search needs
@@ -57,7 +58,7 @@ whole-requires-2 c κs =
     let decode = back .before .before .before .before .before .before .decode in
     let side-of = back .before .before .before .side-of in
     let prepare = back .before .prepare in
-    question-holding (pre) (lit≤ tt) (decode .ensures) (lit≤ tt) (prepare .ensures) (side-of .ensures)
+    question-holding (pre) (lit≤ tt) (decode .ensures) refl (prepare .ensures) (side-of .ensures)
 
 same-length-2 : tie.Need-same-length-2
 same-length-2 c = search needs

@@ -4,7 +4,7 @@ use Prim.Native.Nat.{_≤_, _-_}
 use native.Mathlib.Omega.{arith}
 use mathlib.Core.Path.{ap, _∙_}
 use Rattle.hand.specs.Setup.{Prepared, entryOf}
-use Rattle.hand.proofs.EntryLaws.{prepared-start, prepared-more, prepared-end, prepared-short}
+use Rattle.hand.proofs.EntryLaws.{prepared-start, prepared-more, prepared-end, prepared-other}
 use Rattle.hand.proofs.setup.prepare.Statement.{statement}
 use Rattle.hand.proofs.setup.prepare.Tie as tie
 
@@ -17,7 +17,7 @@ abbrev μ-loop : tie.MeasureT-loop
 returns : tie.Need-returns Inv-loop μ-loop
 returns c =
     let if1 = c .if1 in
-    prepared-short _ _ _ _ _ (if1 .taken)
+    prepared-other _ _ _ _ _ (if1 .taken)
 
 loop-holds : tie.Need-loop-holds Inv-loop μ-loop
 loop-holds c =

@@ -87,9 +87,9 @@ at-each-loop-again t c =
     at-next _ _ _ _ _ _ (turning .inv) turn (if2 .left)
     (record {
       is = λ {image} {table} {side} w next.
-        let op = a-bound (args .steps .now) (w .hand) (omega (arith, a-is (w .hand), pre .1 .1 .0)) (kind .ensures) (x-at .ensures)
-        (onto _ w next .stage) in
-        (op .reads _ (formula .ensures .is (op .hand)));
+          let op = a-bound (args .steps .now) (w .hand) (omega (arith, a-is (w .hand), pre .1 .1 .0)) (kind .ensures) (x-at .ensures)
+          (onto _ w next .stage) in
+          (op .reads _ (formula .ensures .is (op .hand)));
     })
 
 pub at-each-returns-2 : (t : ℕ) → at-each-lts.Need-returns-2 (at-each-claims t) (at-each-at t) at-each.Post at-each-Inv-loop at-each-μ-loop

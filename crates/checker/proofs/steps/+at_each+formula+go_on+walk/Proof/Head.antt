@@ -37,8 +37,8 @@ walk-returns t c =
     let enum-told = c .enum-told in
     record {
       is = λ {image} {table} {side} w.
-        let arm = arm-of (args .steps .now) (w .hand) (args .at) (kind .ensures) (read-head .ensures) (stepped .given .1) (enum-told .given .1) in
-        absurd (omega (arith, w .deep, arm-kind arm));
+          let arm = arm-of (args .steps .now) (w .hand) (args .at) (kind .ensures) (read-head .ensures) (stepped .given .1) (enum-told .given .1) in
+          absurd (omega (arith, w .deep, arm-kind arm));
     }
 
 pub walk-enum-told-2 : (t : ℕ) → walk-lts.Need-enum-told-2 (walk-claims t) (walk-at t) walk.Post walk-Inv-loop walk-μ-loop
@@ -53,8 +53,8 @@ walk-returns-2 t c =
     let enum-told2 = c .enum-told2 in
     record {
       is = λ {image} {table} {side} w.
-        let arm = arm-of (args .steps .now) (w .hand) (args .at) (kind .ensures) (read-head .ensures) (stepped .given .1) (enum-told2 .given .1) in
-        absurd (omega (arith, w .deep, arm-kind arm));
+          let arm = arm-of (args .steps .now) (w .hand) (args .at) (kind .ensures) (read-head .ensures) (stepped .given .1) (enum-told2 .given .1) in
+          absurd (omega (arith, w .deep, arm-kind arm));
     }
 
 pub walk-enum-told-3 : (t : ℕ) → walk-lts.Need-enum-told-3 (walk-claims t) (walk-at t) walk.Post walk-Inv-loop walk-μ-loop
@@ -69,8 +69,8 @@ walk-returns-3 t c =
     let enum-told3 = c .enum-told3 in
     record {
       is = λ {image} {table} {side} w.
-        let arm = arm-of (args .steps .now) (w .hand) (args .at) (kind .ensures) (read-head .ensures) (stepped .given .1) (enum-told3 .given .1) in
-        absurd (omega (arith, w .deep, arm-kind arm));
+          let arm = arm-of (args .steps .now) (w .hand) (args .at) (kind .ensures) (read-head .ensures) (stepped .given .1) (enum-told3 .given .1) in
+          absurd (omega (arith, w .deep, arm-kind arm));
     }
 
 pub walk-enum-told-4 : (t : ℕ) → walk-lts.Need-enum-told-4 (walk-claims t) (walk-at t) walk.Post walk-Inv-loop walk-μ-loop
@@ -105,9 +105,9 @@ walk-returns-4 t c =
     let if1 = c .if1 in
     record {
       is = λ {image} {table} {side} w.
-        let arm = arm-of (args .steps .now) (w .hand) (args .at) (kind .ensures) (read-head .ensures) (stepped .given .1) (enum-told4 .given .1) in
-        let op = a-operand (args .steps .now) (w .hand) (arm-ruled arm .a) (field2 .ensures) in
-        arm-proves arm (number (args .met)) (args .s) refl (stops _ _ (if1 .taken) (op .reads _ (formula .ensures .is (op .hand))));
+          let arm = arm-of (args .steps .now) (w .hand) (args .at) (kind .ensures) (read-head .ensures) (stepped .given .1) (enum-told4 .given .1) in
+          let op = a-operand (args .steps .now) (w .hand) (arm-ruled arm .a) (field2 .ensures) in
+          arm-proves arm (number (args .met)) (args .s) refl (stops _ _ (if1 .taken) (op .reads _ (formula .ensures .is (op .hand))));
     }
 
 pub walk-field-requires-3 : (t : ℕ) → walk-lts.Need-field-requires-3 (walk-claims t) (walk-at t) walk.Post walk-Inv-loop walk-μ-loop
@@ -145,11 +145,11 @@ walk-returns-5 t c =
     let formula2 = c .formula2 in
     record {
       is = λ {image} {table} {side} w.
-        let arm = arm-of (args .steps .now) (w .hand) (args .at) (kind .ensures) (read-head .ensures) (stepped .given .1) (enum-told4 .given .1) in
-        let first = a-operand (args .steps .now) (w .hand) (arm-ruled arm .a) (field2 .ensures) in
-        let second = b-operand (args .steps .now) (w .hand) (arm-ruled arm .b) (field3 .ensures) in
-        arm-proves arm (number (args .met)) (args .s) refl
-        (goes _ _ (if1 .left) (first .reads _ (formula .ensures .is (first .hand))) (second .reads _ (formula2 .ensures .is (second .hand))));
+          let arm = arm-of (args .steps .now) (w .hand) (args .at) (kind .ensures) (read-head .ensures) (stepped .given .1) (enum-told4 .given .1) in
+          let first = a-operand (args .steps .now) (w .hand) (arm-ruled arm .a) (field2 .ensures) in
+          let second = b-operand (args .steps .now) (w .hand) (arm-ruled arm .b) (field3 .ensures) in
+          arm-proves arm (number (args .met)) (args .s) refl
+          (goes _ _ (if1 .left) (first .reads _ (formula .ensures .is (first .hand))) (second .reads _ (formula2 .ensures .is (second .hand))));
     }
 
 pub walk-enum-told-5 : (t : ℕ) → walk-lts.Need-enum-told-5 (walk-claims t) (walk-at t) walk.Post walk-Inv-loop walk-μ-loop
@@ -183,9 +183,9 @@ walk-returns-6 t c =
     let formula3 = c .formula3 in
     record {
       is = λ {image} {table} {side} w.
-        let arm = arm-of (args .steps .now) (w .hand) (args .at) (kind .ensures) (read-head .ensures) (stepped .given .1) (enum-told5 .given .1) in
-        let op = a-operand (args .steps .now) (w .hand) (arm-ruled arm .a) (field4 .ensures) in
-        arm-proves arm (number (args .met)) (args .s) refl (op .reads _ (formula3 .ensures .is (op .hand)));
+          let arm = arm-of (args .steps .now) (w .hand) (args .at) (kind .ensures) (read-head .ensures) (stepped .given .1) (enum-told5 .given .1) in
+          let op = a-operand (args .steps .now) (w .hand) (arm-ruled arm .a) (field4 .ensures) in
+          arm-proves arm (number (args .met)) (args .s) refl (op .reads _ (formula3 .ensures .is (op .hand)));
     }
 
 pub walk-enum-told-6 : (t : ℕ) → walk-lts.Need-enum-told-6 (walk-claims t) (walk-at t) walk.Post walk-Inv-loop walk-μ-loop
@@ -219,9 +219,9 @@ walk-returns-7 t c =
     let formula4 = c .formula4 in
     record {
       is = λ {image} {table} {side} w.
-        let arm = arm-of (args .steps .now) (w .hand) (args .at) (kind .ensures) (read-head .ensures) (stepped .given .1) (enum-told6 .given .1) in
-        let op = b-operand (args .steps .now) (w .hand) (arm-ruled arm .b) (field5 .ensures) in
-        arm-proves arm (number (args .met)) (args .s) refl (op .reads _ (formula4 .ensures .is (op .hand)));
+          let arm = arm-of (args .steps .now) (w .hand) (args .at) (kind .ensures) (read-head .ensures) (stepped .given .1) (enum-told6 .given .1) in
+          let op = b-operand (args .steps .now) (w .hand) (arm-ruled arm .b) (field5 .ensures) in
+          arm-proves arm (number (args .met)) (args .s) refl (op .reads _ (formula4 .ensures .is (op .hand)));
     }
 
 pub walk-enum-told-7 : (t : ℕ) → walk-lts.Need-enum-told-7 (walk-claims t) (walk-at t) walk.Post walk-Inv-loop walk-μ-loop
@@ -249,8 +249,8 @@ walk-returns-8 t c =
     let at-each = c .at-each in
     record {
       is = λ {image} {table} {side} w.
-        let arm = arm-of (args .steps .now) (w .hand) (args .at) (kind .ensures) (read-head .ensures) (stepped .given .1) (enum-told7 .given .1) in
-        arm-proves arm (number (args .met)) (args .s) refl (at-each .ensures .is w);
+          let arm = arm-of (args .steps .now) (w .hand) (args .at) (kind .ensures) (read-head .ensures) (stepped .given .1) (enum-told7 .given .1) in
+          arm-proves arm (number (args .met)) (args .s) refl (at-each .ensures .is w);
     }
 
 pub walk-enum-known-rule-2 : (t : ℕ) → walk-lts.Need-enum-known-rule-2 (walk-claims t) (walk-at t) walk.Post walk-Inv-loop walk-μ-loop
@@ -275,9 +275,9 @@ walk-returns-9 t c =
     let fails = c .fails in
     record {
       is = λ {image} {table} {side} w.
-        let arm = arm-of (args .steps .now) (w .hand) (args .at) (kind .ensures) (read-head .ensures) (stepped .given .1) (rule2 .given .1) in
-        arm-fails arm (number (args .met)) (args .s) (chosen-fails (led .result) true (next-is _ w (indexed .ensures) (led .ensures)) (if2 .taken))
-        (fails .ensures);
+          let arm = arm-of (args .steps .now) (w .hand) (args .at) (kind .ensures) (read-head .ensures) (stepped .given .1) (rule2 .given .1) in
+          arm-fails arm (number (args .met)) (args .s) (chosen-fails (led .result) true (next-is _ w (indexed .ensures) (led .ensures)) (if2 .taken))
+          (fails .ensures);
     }
 
 pub walk-field-requires-6 : (t : ℕ) → walk-lts.Need-field-requires-6 (walk-claims t) (walk-at t) walk.Post walk-Inv-loop walk-μ-loop
@@ -326,9 +326,9 @@ walk-returns-10 t c =
     let formula5 = c .formula5 in
     record {
       is = λ {image} {table} {side} w.
-        let arm = arm-of (args .steps .now) (w .hand) (args .at) (kind .ensures) (read-head .ensures) (stepped .given .1) (rule2 .given .1) in
-        let op = a-bound (args .steps .now) (w .hand) (arm-ruled arm .a) (field6 .ensures) (x-at .ensures)
-        (onto _ w (chosen-next (led .result) (next-is _ w (indexed .ensures) (led .ensures)) (if2 .left)) .stage) in
-        arm-proves arm (number (args .met)) (args .s) (chosen-holds (led .result) (next-is _ w (indexed .ensures) (led .ensures)) (if2 .left) refl)
-        (op .reads _ (formula5 .ensures .is (op .hand)));
+          let arm = arm-of (args .steps .now) (w .hand) (args .at) (kind .ensures) (read-head .ensures) (stepped .given .1) (rule2 .given .1) in
+          let op = a-bound (args .steps .now) (w .hand) (arm-ruled arm .a) (field6 .ensures) (x-at .ensures)
+          (onto _ w (chosen-next (led .result) (next-is _ w (indexed .ensures) (led .ensures)) (if2 .left)) .stage) in
+          arm-proves arm (number (args .met)) (args .s) (chosen-holds (led .result) (next-is _ w (indexed .ensures) (led .ensures)) (if2 .left) refl)
+          (op .reads _ (formula5 .ensures .is (op .hand)));
     }

@@ -35,9 +35,9 @@ walk-returns-19 t c =
     let fails7 = c .fails7 in
     record {
       is = λ {image} {table} {side} w.
-        let arm = arm-of (args .steps .now) (w .hand) (args .at) (kind .ensures) (read-head .ensures) (stepped .given .1) (enum-told11 .given .1) in
-        arm-fails arm (number (args .met)) (args .s) (off-fails (number (args .met)) (indexed .ensures) (has5 .result) (has5 .ensures) (if8 .taken))
-        (fails7 .ensures);
+          let arm = arm-of (args .steps .now) (w .hand) (args .at) (kind .ensures) (read-head .ensures) (stepped .given .1) (enum-told11 .given .1) in
+          arm-fails arm (number (args .met)) (args .s) (off-fails (number (args .met)) (indexed .ensures) (has5 .result) (has5 .ensures) (if8 .taken))
+          (fails7 .ensures);
     }
 
 pub walk-field-requires-8 : (t : ℕ) → walk-lts.Need-field-requires-8 (walk-claims t) (walk-at t) walk.Post walk-Inv-loop walk-μ-loop
@@ -82,10 +82,10 @@ walk-returns-20 t c =
     let if9 = c .if9 in
     record {
       is = λ {image} {table} {side} w.
-        let arm = arm-of (args .steps .now) (w .hand) (args .at) (kind .ensures) (read-head .ensures) (stepped .given .1) (enum-told11 .given .1) in
-        let op = a-bound (args .steps .now) (w .hand) (arm-ruled arm .a) (field8 .ensures) (x-at3 .ensures) (w .stage) in
-        arm-proves arm (number (args .met)) (args .s) (off-holds (number (args .met)) (indexed .ensures) (has5 .result) (has5 .ensures) (if8 .left))
-        (stops _ _ (if9 .taken) (op .reads _ (formula7 .ensures .is (op .hand))));
+          let arm = arm-of (args .steps .now) (w .hand) (args .at) (kind .ensures) (read-head .ensures) (stepped .given .1) (enum-told11 .given .1) in
+          let op = a-bound (args .steps .now) (w .hand) (arm-ruled arm .a) (field8 .ensures) (x-at3 .ensures) (w .stage) in
+          arm-proves arm (number (args .met)) (args .s) (off-holds (number (args .met)) (indexed .ensures) (has5 .result) (has5 .ensures) (if8 .left))
+          (stops _ _ (if9 .taken) (op .reads _ (formula7 .ensures .is (op .hand))));
     }
 
 pub walk-field-requires-9 : (t : ℕ) → walk-lts.Need-field-requires-9 (walk-claims t) (walk-at t) walk.Post walk-Inv-loop walk-μ-loop
@@ -136,11 +136,11 @@ walk-returns-21 t c =
     let formula8 = c .formula8 in
     record {
       is = λ {image} {table} {side} w.
-        let arm = arm-of (args .steps .now) (w .hand) (args .at) (kind .ensures) (read-head .ensures) (stepped .given .1) (enum-told11 .given .1) in
-        let first = a-bound (args .steps .now) (w .hand) (arm-ruled arm .a) (field8 .ensures) (x-at3 .ensures) (w .stage) in
-        let second = b-bound (args .steps .now) (w .hand) (arm-ruled arm .b) (field9 .ensures) (y-at .ensures) (w .stage) in
-        arm-proves arm (number (args .met)) (args .s) (off-holds (number (args .met)) (indexed .ensures) (has5 .result) (has5 .ensures) (if8 .left))
-        (goes _ _ (if9 .left) (first .reads _ (formula7 .ensures .is (first .hand))) (second .reads _ (formula8 .ensures .is (second .hand))));
+          let arm = arm-of (args .steps .now) (w .hand) (args .at) (kind .ensures) (read-head .ensures) (stepped .given .1) (enum-told11 .given .1) in
+          let first = a-bound (args .steps .now) (w .hand) (arm-ruled arm .a) (field8 .ensures) (x-at3 .ensures) (w .stage) in
+          let second = b-bound (args .steps .now) (w .hand) (arm-ruled arm .b) (field9 .ensures) (y-at .ensures) (w .stage) in
+          arm-proves arm (number (args .met)) (args .s) (off-holds (number (args .met)) (indexed .ensures) (has5 .result) (has5 .ensures) (if8 .left))
+          (goes _ _ (if9 .left) (first .reads _ (formula7 .ensures .is (first .hand))) (second .reads _ (formula8 .ensures .is (second .hand))));
     }
 
 pub walk-enum-told-12 : (t : ℕ) → walk-lts.Need-enum-told-12 (walk-claims t) (walk-at t) walk.Post walk-Inv-loop walk-μ-loop
@@ -165,9 +165,9 @@ walk-returns-22 t c =
     let fails8 = c .fails8 in
     record {
       is = λ {image} {table} {side} w.
-        let arm = arm-of (args .steps .now) (w .hand) (args .at) (kind .ensures) (read-head .ensures) (stepped .given .1) (enum-told12 .given .1) in
-        arm-fails arm (number (args .met)) (args .s) (off-fails (number (args .met)) (indexed .ensures) (has6 .result) (has6 .ensures) (if10 .taken))
-        (fails8 .ensures);
+          let arm = arm-of (args .steps .now) (w .hand) (args .at) (kind .ensures) (read-head .ensures) (stepped .given .1) (enum-told12 .given .1) in
+          arm-fails arm (number (args .met)) (args .s) (off-fails (number (args .met)) (indexed .ensures) (has6 .result) (has6 .ensures) (if10 .taken))
+          (fails8 .ensures);
     }
 
 pub walk-field-requires-10 : (t : ℕ) → walk-lts.Need-field-requires-10 (walk-claims t) (walk-at t) walk.Post walk-Inv-loop walk-μ-loop
@@ -217,9 +217,9 @@ walk-returns-23 t c =
     let fails9 = c .fails9 in
     record {
       is = λ {image} {table} {side} w.
-        let arm = arm-of (args .steps .now) (w .hand) (args .at) (kind .ensures) (read-head .ensures) (stepped .given .1) (enum-told13 .given .1) in
-        arm-fails arm (number (args .met)) (args .s) (on-fails (number (args .met)) (indexed .ensures) (has7 .result) (has7 .ensures) (if11 .taken))
-        (fails9 .ensures);
+          let arm = arm-of (args .steps .now) (w .hand) (args .at) (kind .ensures) (read-head .ensures) (stepped .given .1) (enum-told13 .given .1) in
+          arm-fails arm (number (args .met)) (args .s) (on-fails (number (args .met)) (indexed .ensures) (has7 .result) (has7 .ensures) (if11 .taken))
+          (fails9 .ensures);
     }
 
 pub walk-returns-24 : (t : ℕ) → walk-lts.Need-returns-24 (walk-claims t) (walk-at t) walk.Post walk-Inv-loop walk-μ-loop
@@ -234,9 +234,9 @@ walk-returns-24 t c =
     let if11 = c .if11 in
     record {
       is = λ {image} {table} {side} w.
-        let arm = arm-of (args .steps .now) (w .hand) (args .at) (kind .ensures) (read-head .ensures) (stepped .given .1) (enum-told13 .given .1) in
-        arm-ends arm (number (args .met)) (args .s) _
-        (on-holds (number (args .met)) (indexed .ensures) (has7 .result) (has7 .ensures) (if11 .left)) refl;
+          let arm = arm-of (args .steps .now) (w .hand) (args .at) (kind .ensures) (read-head .ensures) (stepped .given .1) (enum-told13 .given .1) in
+          arm-ends arm (number (args .met)) (args .s) _
+          (on-holds (number (args .met)) (indexed .ensures) (has7 .result) (has7 .ensures) (if11 .left)) refl;
     }
 
 pub walk-enum-told-14 : (t : ℕ) → walk-lts.Need-enum-told-14 (walk-claims t) (walk-at t) walk.Post walk-Inv-loop walk-μ-loop
@@ -261,9 +261,9 @@ walk-returns-25 t c =
     let fails10 = c .fails10 in
     record {
       is = λ {image} {table} {side} w.
-        let arm = arm-of (args .steps .now) (w .hand) (args .at) (kind .ensures) (read-head .ensures) (stepped .given .1) (enum-told14 .given .1) in
-        arm-fails arm (number (args .met)) (args .s) (off-fails (number (args .met)) (indexed .ensures) (has8 .result) (has8 .ensures) (if12 .taken))
-        (fails10 .ensures);
+          let arm = arm-of (args .steps .now) (w .hand) (args .at) (kind .ensures) (read-head .ensures) (stepped .given .1) (enum-told14 .given .1) in
+          arm-fails arm (number (args .met)) (args .s) (off-fails (number (args .met)) (indexed .ensures) (has8 .result) (has8 .ensures) (if12 .taken))
+          (fails10 .ensures);
     }
 
 pub walk-field-requires-11 : (t : ℕ) → walk-lts.Need-field-requires-11 (walk-claims t) (walk-at t) walk.Post walk-Inv-loop walk-μ-loop
@@ -307,10 +307,10 @@ walk-returns-26 t c =
     let formula10 = c .formula10 in
     record {
       is = λ {image} {table} {side} w.
-        let arm = arm-of (args .steps .now) (w .hand) (args .at) (kind .ensures) (read-head .ensures) (stepped .given .1) (enum-told14 .given .1) in
-        let op = b-bound (args .steps .now) (w .hand) (arm-ruled arm .b) (field11 .ensures) (y-at3 .ensures) (w .stage) in
-        arm-proves arm (number (args .met)) (args .s) (off-holds (number (args .met)) (indexed .ensures) (has8 .result) (has8 .ensures) (if12 .left))
-        (op .reads _ (formula10 .ensures .is (op .hand)));
+          let arm = arm-of (args .steps .now) (w .hand) (args .at) (kind .ensures) (read-head .ensures) (stepped .given .1) (enum-told14 .given .1) in
+          let op = b-bound (args .steps .now) (w .hand) (arm-ruled arm .b) (field11 .ensures) (y-at3 .ensures) (w .stage) in
+          arm-proves arm (number (args .met)) (args .s) (off-holds (number (args .met)) (indexed .ensures) (has8 .result) (has8 .ensures) (if12 .left))
+          (op .reads _ (formula10 .ensures .is (op .hand)));
     }
 
 pub walk-enum-known-rule-4 : (t : ℕ) → walk-lts.Need-enum-known-rule-4 (walk-claims t) (walk-at t) walk.Post walk-Inv-loop walk-μ-loop
@@ -335,10 +335,10 @@ walk-returns-27 t c =
     let fails11 = c .fails11 in
     record {
       is = λ {image} {table} {side} w.
-        let arm = arm-of (args .steps .now) (w .hand) (args .at) (kind .ensures) (read-head .ensures) (stepped .given .1) (rule4 .given .1) in
-        arm-fails arm (number (args .met)) (args .s)
-        (besides-fails (graphOf image .next (args .s) (rule4 .given .0 .0))
-        (off-fails (number (args .met)) (indexed .ensures) (has9 .result) (has9 .ensures) (if13 .taken))) (fails11 .ensures);
+          let arm = arm-of (args .steps .now) (w .hand) (args .at) (kind .ensures) (read-head .ensures) (stepped .given .1) (rule4 .given .1) in
+          arm-fails arm (number (args .met)) (args .s)
+          (besides-fails (graphOf image .next (args .s) (rule4 .given .0 .0))
+          (off-fails (number (args .met)) (indexed .ensures) (has9 .result) (has9 .ensures) (if13 .taken))) (fails11 .ensures);
     }
 
 pub walk-leads-requires-3 : (t : ℕ) → walk-lts.Need-leads-requires-3 (walk-claims t) (walk-at t) walk.Post walk-Inv-loop walk-μ-loop
@@ -361,9 +361,9 @@ walk-returns-28 t c =
     let fails12 = c .fails12 in
     record {
       is = λ {image} {table} {side} w.
-        let arm = arm-of (args .steps .now) (w .hand) (args .at) (kind .ensures) (read-head .ensures) (stepped .given .1) (rule4 .given .1) in
-        arm-fails arm (number (args .met)) (args .s)
-        (chosen-fails (leads3 .result) _ (next-is _ w (indexed .ensures) (leads3 .ensures)) (if14 .taken)) (fails12 .ensures);
+          let arm = arm-of (args .steps .now) (w .hand) (args .at) (kind .ensures) (read-head .ensures) (stepped .given .1) (rule4 .given .1) in
+          arm-fails arm (number (args .met)) (args .s)
+          (chosen-fails (leads3 .result) _ (next-is _ w (indexed .ensures) (leads3 .ensures)) (if14 .taken)) (fails12 .ensures);
     }
 
 pub walk-go-on-requires-2 : (t : ℕ) → walk-lts.Need-go-on-requires-2 (walk-claims t) (walk-at t) walk.Post walk-Inv-loop walk-μ-loop
@@ -381,8 +381,7 @@ walk-go-on-requires-2 t c κs =
     let leads3 = c .before .before .leads3 in
     let if14 = c .before .if14 in
     let w = pre .1 .walk in
-    let arm = arm-of (args .steps .now) (w .hand) (args .at) (kind .ensures) (read-head .ensures) (stepped .given .1) (rule4 .given .1) in
-    (
+    let arm = arm-of (args .steps .now) (w .hand) (args .at) (kind .ensures) (read-head .ensures) (stepped .given .1) (rule4 .given .1) in (
       omega (arith, pre .0),
       record {
         walking = pre .1;
@@ -408,9 +407,9 @@ walk-returns-29 t c =
     let go-on2 = c .go-on2 in
     record {
       is = λ {image} {table} {side} w.
-        let arm = arm-of (args .steps .now) (w .hand) (args .at) (kind .ensures) (read-head .ensures) (stepped .given .1) (rule4 .given .1) in
-        arm-proves arm (number (args .met)) (args .s)
-        (chosen-holds (leads3 .result) (next-is _ w (indexed .ensures) (leads3 .ensures)) (if14 .left)
-        (off-holds (number (args .met)) (indexed .ensures) (has9 .result) (has9 .ensures) (if13 .left)))
-        (go-on2 .ensures .is w (chosen-next (leads3 .result) (next-is _ w (indexed .ensures) (leads3 .ensures)) (if14 .left)));
+          let arm = arm-of (args .steps .now) (w .hand) (args .at) (kind .ensures) (read-head .ensures) (stepped .given .1) (rule4 .given .1) in
+          arm-proves arm (number (args .met)) (args .s)
+          (chosen-holds (leads3 .result) (next-is _ w (indexed .ensures) (leads3 .ensures)) (if14 .left)
+          (off-holds (number (args .met)) (indexed .ensures) (has9 .result) (has9 .ensures) (if13 .left)))
+          (go-on2 .ensures .is w (chosen-next (leads3 .result) (next-is _ w (indexed .ensures) (leads3 .ensures)) (if14 .left)));
     }

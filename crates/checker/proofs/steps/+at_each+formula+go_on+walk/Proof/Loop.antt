@@ -34,16 +34,16 @@ walk-loop-holds t c =
     (λ x. begun (rest-as _ _ _ _ _ _ _ _ (record {
       off = off-walk _ _ (off-holds (number (args .met)) (indexed .ensures) (x .2 .result) (x .2 .ensures) (x .3 .left));
       is = λ {image} {table} {side} w.
-        let arm = arm-of (args .steps .now) (w .hand) (args .at) (kind .ensures) (read-head .ensures) (stepped .given .1) (x .1 .given .1) in
-        later-rest arm _ _ (off-holds (number (args .met)) (indexed .ensures) (x .2 .result) (x .2 .ensures) (x .3 .left)) _;
+          let arm = arm-of (args .steps .now) (w .hand) (args .at) (kind .ensures) (read-head .ensures) (stepped .given .1) (x .1 .given .1) in
+          later-rest arm _ _ (off-holds (number (args .met)) (indexed .ensures) (x .2 .result) (x .2 .ensures) (x .3 .left)) _;
     }) (x .5) (x .4)))
     (λ x. begun (rest-as _ _ _ _ _ _ _ _ (record {
       off = off-walk _ _ (off-holds (number (args .met)) (indexed .ensures) (x .2 .result) (x .2 .ensures) (x .3 .left));
       is = λ {image} {table} {side} w.
-        let arm = arm-of (args .steps .now) (w .hand) (args .at) (kind .ensures) (read-head .ensures) (stepped .given .1) (x .1 .given .1) in
-        let op = b-bound (args .steps .now) (w .hand) (arm-ruled arm .b) (x .4 .ensures) (x .5 .ensures) (w .stage) in
-        on-rest arm _ _ (off-holds (number (args .met)) (indexed .ensures) (x .2 .result) (x .2 .ensures) (x .3 .left)) _ _
-        (op .reads _ (x .7 .ensures .is (op .hand)));
+          let arm = arm-of (args .steps .now) (w .hand) (args .at) (kind .ensures) (read-head .ensures) (stepped .given .1) (x .1 .given .1) in
+          let op = b-bound (args .steps .now) (w .hand) (arm-ruled arm .b) (x .4 .ensures) (x .5 .ensures) (w .stage) in
+          on-rest arm _ _ (off-holds (number (args .met)) (indexed .ensures) (x .2 .result) (x .2 .ensures) (x .3 .left)) _ _
+          (op .reads _ (x .7 .ensures .is (op .hand)));
     }) (x .9) (x .8)))
     (joined .came)
 
@@ -140,8 +140,8 @@ walk-returns-32 t c =
     let enum-told15 = c .enum-told15 in
     record {
       is = λ {image} {table} {side} w.
-        head-missing (args .steps .now) (w .hand) (args .at) (kind .ensures) (read-head .ensures) (number (args .met)) (args .s) _
-        (enum-told15 .given .1) refl;
+          head-missing (args .steps .now) (w .hand) (args .at) (kind .ensures) (read-head .ensures) (number (args .met)) (args .s) _
+          (enum-told15 .given .1) refl;
     }
 
 pub walk-returns-33 : (t : ℕ) → walk-lts.Need-returns-33 (walk-claims t) (walk-at t) walk.Post walk-Inv-loop walk-μ-loop
@@ -153,6 +153,6 @@ walk-returns-33 t c =
     let wrong = c .wrong in
     record {
       is = λ {image} {table} {side} w.
-        head-wrong (args .steps .now) (w .hand) (args .at) (kind .ensures) (read-head .ensures) (number (args .met)) (args .s)
-        (enum-told16 .given .1) (wrong .ensures);
+          head-wrong (args .steps .now) (w .hand) (args .at) (kind .ensures) (read-head .ensures) (number (args .met)) (args .s)
+          (enum-told16 .given .1) (wrong .ensures);
     }

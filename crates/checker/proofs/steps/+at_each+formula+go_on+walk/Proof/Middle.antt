@@ -34,9 +34,9 @@ walk-returns-11 t c =
     let fails2 = c .fails2 in
     record {
       is = λ {image} {table} {side} w.
-        let arm = arm-of (args .steps .now) (w .hand) (args .at) (kind .ensures) (read-head .ensures) (stepped .given .1) (enum-told8 .given .1) in
-        arm-fails arm (number (args .met)) (args .s) (off-fails (number (args .met)) (indexed .ensures) (has .result) (has .ensures) (if3 .taken))
-        (fails2 .ensures);
+          let arm = arm-of (args .steps .now) (w .hand) (args .at) (kind .ensures) (read-head .ensures) (stepped .given .1) (enum-told8 .given .1) in
+          arm-fails arm (number (args .met)) (args .s) (off-fails (number (args .met)) (indexed .ensures) (has .result) (has .ensures) (if3 .taken))
+          (fails2 .ensures);
     }
 
 pub walk-field-requires-7 : (t : ℕ) → walk-lts.Need-field-requires-7 (walk-claims t) (walk-at t) walk.Post walk-Inv-loop walk-μ-loop
@@ -80,10 +80,10 @@ walk-returns-12 t c =
     let formula6 = c .formula6 in
     record {
       is = λ {image} {table} {side} w.
-        let arm = arm-of (args .steps .now) (w .hand) (args .at) (kind .ensures) (read-head .ensures) (stepped .given .1) (enum-told8 .given .1) in
-        let op = a-bound (args .steps .now) (w .hand) (arm-ruled arm .a) (field7 .ensures) (x-at2 .ensures) (w .stage) in
-        arm-proves arm (number (args .met)) (args .s) (off-holds (number (args .met)) (indexed .ensures) (has .result) (has .ensures) (if3 .left))
-        (op .reads _ (formula6 .ensures .is (op .hand)));
+          let arm = arm-of (args .steps .now) (w .hand) (args .at) (kind .ensures) (read-head .ensures) (stepped .given .1) (enum-told8 .given .1) in
+          let op = a-bound (args .steps .now) (w .hand) (arm-ruled arm .a) (field7 .ensures) (x-at2 .ensures) (w .stage) in
+          arm-proves arm (number (args .met)) (args .s) (off-holds (number (args .met)) (indexed .ensures) (has .result) (has .ensures) (if3 .left))
+          (op .reads _ (formula6 .ensures .is (op .hand)));
     }
 
 pub walk-enum-told-9 : (t : ℕ) → walk-lts.Need-enum-told-9 (walk-claims t) (walk-at t) walk.Post walk-Inv-loop walk-μ-loop
@@ -108,9 +108,9 @@ walk-returns-13 t c =
     let fails3 = c .fails3 in
     record {
       is = λ {image} {table} {side} w.
-        let arm = arm-of (args .steps .now) (w .hand) (args .at) (kind .ensures) (read-head .ensures) (stepped .given .1) (enum-told9 .given .1) in
-        arm-fails arm (number (args .met)) (args .s) (off-fails (number (args .met)) (indexed .ensures) (has2 .result) (has2 .ensures) (if4 .taken))
-        (fails3 .ensures);
+          let arm = arm-of (args .steps .now) (w .hand) (args .at) (kind .ensures) (read-head .ensures) (stepped .given .1) (enum-told9 .given .1) in
+          arm-fails arm (number (args .met)) (args .s) (off-fails (number (args .met)) (indexed .ensures) (has2 .result) (has2 .ensures) (if4 .taken))
+          (fails3 .ensures);
     }
 
 pub walk-enum-known-rule-3 : (t : ℕ) → walk-lts.Need-enum-known-rule-3 (walk-claims t) (walk-at t) walk.Post walk-Inv-loop walk-μ-loop
@@ -135,10 +135,10 @@ walk-returns-14 t c =
     let fails4 = c .fails4 in
     record {
       is = λ {image} {table} {side} w.
-        let arm = arm-of (args .steps .now) (w .hand) (args .at) (kind .ensures) (read-head .ensures) (stepped .given .1) (rule3 .given .1) in
-        arm-fails arm (number (args .met)) (args .s)
-        (besides-fails (graphOf image .next (args .s) (rule3 .given .0 .0))
-        (off-fails (number (args .met)) (indexed .ensures) (has3 .result) (has3 .ensures) (if5 .taken))) (fails4 .ensures);
+          let arm = arm-of (args .steps .now) (w .hand) (args .at) (kind .ensures) (read-head .ensures) (stepped .given .1) (rule3 .given .1) in
+          arm-fails arm (number (args .met)) (args .s)
+          (besides-fails (graphOf image .next (args .s) (rule3 .given .0 .0))
+          (off-fails (number (args .met)) (indexed .ensures) (has3 .result) (has3 .ensures) (if5 .taken))) (fails4 .ensures);
     }
 
 pub walk-leads-requires-2 : (t : ℕ) → walk-lts.Need-leads-requires-2 (walk-claims t) (walk-at t) walk.Post walk-Inv-loop walk-μ-loop
@@ -161,9 +161,9 @@ walk-returns-15 t c =
     let fails5 = c .fails5 in
     record {
       is = λ {image} {table} {side} w.
-        let arm = arm-of (args .steps .now) (w .hand) (args .at) (kind .ensures) (read-head .ensures) (stepped .given .1) (rule3 .given .1) in
-        arm-fails arm (number (args .met)) (args .s)
-        (chosen-fails (leads2 .result) _ (next-is _ w (indexed .ensures) (leads2 .ensures)) (if6 .taken)) (fails5 .ensures);
+          let arm = arm-of (args .steps .now) (w .hand) (args .at) (kind .ensures) (read-head .ensures) (stepped .given .1) (rule3 .given .1) in
+          arm-fails arm (number (args .met)) (args .s)
+          (chosen-fails (leads2 .result) _ (next-is _ w (indexed .ensures) (leads2 .ensures)) (if6 .taken)) (fails5 .ensures);
     }
 
 pub walk-go-on-requires : (t : ℕ) → walk-lts.Need-go-on-requires (walk-claims t) (walk-at t) walk.Post walk-Inv-loop walk-μ-loop
@@ -181,8 +181,7 @@ walk-go-on-requires t c κs =
     let leads2 = c .before .before .leads2 in
     let if6 = c .before .if6 in
     let w = pre .1 .walk in
-    let arm = arm-of (args .steps .now) (w .hand) (args .at) (kind .ensures) (read-head .ensures) (stepped .given .1) (rule3 .given .1) in
-    (
+    let arm = arm-of (args .steps .now) (w .hand) (args .at) (kind .ensures) (read-head .ensures) (stepped .given .1) (rule3 .given .1) in (
       omega (arith, pre .0),
       record {
         walking = pre .1;
@@ -208,11 +207,11 @@ walk-returns-16 t c =
     let go-on = c .go-on in
     record {
       is = λ {image} {table} {side} w.
-        let arm = arm-of (args .steps .now) (w .hand) (args .at) (kind .ensures) (read-head .ensures) (stepped .given .1) (rule3 .given .1) in
-        arm-proves arm (number (args .met)) (args .s)
-        (chosen-holds (leads2 .result) (next-is _ w (indexed .ensures) (leads2 .ensures)) (if6 .left)
-        (off-holds (number (args .met)) (indexed .ensures) (has3 .result) (has3 .ensures) (if5 .left)))
-        (go-on .ensures .is w (chosen-next (leads2 .result) (next-is _ w (indexed .ensures) (leads2 .ensures)) (if6 .left)));
+          let arm = arm-of (args .steps .now) (w .hand) (args .at) (kind .ensures) (read-head .ensures) (stepped .given .1) (rule3 .given .1) in
+          arm-proves arm (number (args .met)) (args .s)
+          (chosen-holds (leads2 .result) (next-is _ w (indexed .ensures) (leads2 .ensures)) (if6 .left)
+          (off-holds (number (args .met)) (indexed .ensures) (has3 .result) (has3 .ensures) (if5 .left)))
+          (go-on .ensures .is w (chosen-next (leads2 .result) (next-is _ w (indexed .ensures) (leads2 .ensures)) (if6 .left)));
     }
 
 pub walk-enum-told-10 : (t : ℕ) → walk-lts.Need-enum-told-10 (walk-claims t) (walk-at t) walk.Post walk-Inv-loop walk-μ-loop
@@ -237,9 +236,9 @@ walk-returns-17 t c =
     let fails6 = c .fails6 in
     record {
       is = λ {image} {table} {side} w.
-        let arm = arm-of (args .steps .now) (w .hand) (args .at) (kind .ensures) (read-head .ensures) (stepped .given .1) (enum-told10 .given .1) in
-        arm-fails arm (number (args .met)) (args .s) (on-fails (number (args .met)) (indexed .ensures) (has4 .result) (has4 .ensures) (if7 .taken))
-        (fails6 .ensures);
+          let arm = arm-of (args .steps .now) (w .hand) (args .at) (kind .ensures) (read-head .ensures) (stepped .given .1) (enum-told10 .given .1) in
+          arm-fails arm (number (args .met)) (args .s) (on-fails (number (args .met)) (indexed .ensures) (has4 .result) (has4 .ensures) (if7 .taken))
+          (fails6 .ensures);
     }
 
 pub walk-returns-18 : (t : ℕ) → walk-lts.Need-returns-18 (walk-claims t) (walk-at t) walk.Post walk-Inv-loop walk-μ-loop
@@ -254,7 +253,7 @@ walk-returns-18 t c =
     let if7 = c .if7 in
     record {
       is = λ {image} {table} {side} w.
-        let arm = arm-of (args .steps .now) (w .hand) (args .at) (kind .ensures) (read-head .ensures) (stepped .given .1) (enum-told10 .given .1) in
-        arm-ends arm (number (args .met)) (args .s) _
-        (on-holds (number (args .met)) (indexed .ensures) (has4 .result) (has4 .ensures) (if7 .left)) refl;
+          let arm = arm-of (args .steps .now) (w .hand) (args .at) (kind .ensures) (read-head .ensures) (stepped .given .1) (enum-told10 .given .1) in
+          arm-ends arm (number (args .met)) (args .s) _
+          (on-holds (number (args .met)) (indexed .ensures) (has4 .result) (has4 .ensures) (if7 .left)) refl;
     }

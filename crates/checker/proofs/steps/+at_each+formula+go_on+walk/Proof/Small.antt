@@ -44,8 +44,7 @@ formula-walk-requires t c κs =
     let if1 = c .before .before .before .if1 in
     let starts = c .before .before .start in
     let fresh-walk = c .before .fresh-walk in
-    let hand = pre .1 .hand in
-    (
+    let hand = pre .1 .hand in (
       omega (arith, pre .0, ones-zero _ .1 (fresh-walk .ensures)),
       walking (from-its-start hand (omega (arith, if1 .left, kind .ensures)) (starts .ensures)),
     )
@@ -60,8 +59,8 @@ formula-returns-2 t c =
     let walked = c .walk in
     record {
       is = λ {image} {table} {side} hand.
-        from-start image table (args .steps .now) side _ refl _ (Progress.At (args .at)) (fresh-walk .ensures) (start-is hand (starts .ensures))
-        (walked .ensures .is (from-its-start hand (omega (arith, if1 .left, kind .ensures)) (starts .ensures)));
+          from-start image table (args .steps .now) side _ refl _ (Progress.At (args .at)) (fresh-walk .ensures) (start-is hand (starts .ensures))
+          (walked .ensures .is (from-its-start hand (omega (arith, if1 .left, kind .ensures)) (starts .ensures)));
     }
 
 pub go-on-field-requires : (t : ℕ) → go-on-lts.Need-field-requires (go-on-claims t) (go-on-at t) go-on.Post
@@ -90,8 +89,8 @@ go-on-returns t c =
     let if1 = c .if1 in
     record {
       is = λ {image} {table} {side} w next.
-        let op = a-bound (args .steps .now) (w .hand) (omega (arith, a-is (w .hand), pre .1 .lower)) (kind .ensures) (x-at .ensures) (w .stage) in
-        stops _ _ (if1 .taken) (op .reads _ (formula .ensures .is (op .hand)));
+          let op = a-bound (args .steps .now) (w .hand) (omega (arith, a-is (w .hand), pre .1 .lower)) (kind .ensures) (x-at .ensures) (w .stage) in
+          stops _ _ (if1 .taken) (op .reads _ (formula .ensures .is (op .hand)));
     }
 
 pub go-on-with-requires : (t : ℕ) → go-on-lts.Need-with-requires (go-on-claims t) (go-on-at t) go-on.Post
@@ -119,9 +118,9 @@ go-on-returns-2 t c =
     let walked = c .walk in
     record {
       is = λ {image} {table} {side} w next.
-        let op = a-bound (args .steps .now) (w .hand) (omega (arith, a-is (w .hand), pre .1 .lower)) (kind .ensures) (x-at .ensures) (w .stage) in
-        let along = along-on (number-lt _ _ (fine .1 .1 .1 .1 .1 .0)) (stage-room w) (pre .1 .off) (grown .ensures) image table
-        (args .steps .now) side _ _ _ in
-        goes _ _ (if1 .left) (op .reads _ (formula .ensures .is (op .hand)))
-        (walked .ensures .is (onto _ w next) ∙ ap (λ (read : Reader). read (formula .result)) along);
+          let op = a-bound (args .steps .now) (w .hand) (omega (arith, a-is (w .hand), pre .1 .lower)) (kind .ensures) (x-at .ensures) (w .stage) in
+          let along = along-on (number-lt _ _ (fine .1 .1 .1 .1 .1 .0)) (stage-room w) (pre .1 .off) (grown .ensures) image table
+          (args .steps .now) side _ _ _ in
+          goes _ _ (if1 .left) (op .reads _ (formula .ensures .is (op .hand)))
+          (walked .ensures .is (onto _ w next) ∙ ap (λ (read : Reader). read (formula .result)) along);
     }
