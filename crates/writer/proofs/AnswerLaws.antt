@@ -43,8 +43,8 @@ use Rattle.hand.proofs.EnvironmentLaws.{start-env}
 use Rattle.verdict.specs.Evaluation.{truthOf}
 use Rattle.verdict.proofs.AnswerLaws.{startEnv, asked-readable, question-ready, question-row, asked-refused, own-goal, own-start}
 use Rattle.guide.specs.Sides.{truthOn}
-use Rattle.writer.specs.Wrote.{Wrote}
-use Rattle.writer.specs.Steps.{entrySteps, wholeBytes, Holding}
+use Rattle.pen.specs.Wrote.{Wrote}
+use Rattle.pen.specs.Steps.{entrySteps, wholeBytes, Holding}
 use Rattle.writer.specs.Write.{sideBy, sideFor, certificateOn, certificate, roomConditions, WriteAnswer}
 use Rattle.writer.specs.declared.answer.Answer.{Answer}
 use Rattle.writer.specs.declared.answer.Answer.the-variants as An

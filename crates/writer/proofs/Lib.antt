@@ -1,11 +1,4 @@
--- The laws of a writer, over plain values: each function's proof hands its facts to them.
-pub mod WroteLaws
-pub mod EachLaws
-pub mod AfLaws
-pub mod AlongLaws
-pub mod KindLaws
-pub mod WriterLaws
-pub mod StepLaws
+-- The laws of writing, over plain values: each function's proof hands its facts to them.
 pub mod AnswerLaws
 pub mod Promise
 pub mod Example

@@ -1,10 +1,9 @@
 // Writing the certificate of a goal: the side that holds, its header, and the steps that document 01 chooses, into a lent buffer.
 //
 // The certificate is gone through twice: once to count its bytes, which stops as soon as they are more than the buffer holds, and then to write them. So
-// no byte of the buffer is changed before it is known that all have room, and a certificate of any length is refused at once where there is none.
+// no byte of the buffer is changed before it is known that all have room, and a certificate of any length is refused at once where there is none. The crate
+// `pen` goes through it.
 pub mod answer;
-mod bytes;
-mod steps;
 
 use answer::Answer;
 use format::Refusal;
@@ -15,10 +14,7 @@ use hand::setup;
 use verdict::truth;
 ghost use mathlib.Core.Path.{_≡_};
 ghost use Rattle.format.specs.Answers.{QuestionRead};
-ghost use Rattle.hand.specs.Environment.{envOf};
 ghost use Rattle.verdict.specs.Evaluation.{Ready, truthOf};
-ghost use Rattle.writer.specs.Wrote.{Wrote};
-ghost use Rattle.writer.specs.Steps.{wholeBytes, Holding};
 ghost use Rattle.writer.specs.Write.{sideBy, WriteAnswer, CodedAnswer};
 
 // Writes the certificate of a goal at a start to the buffer's front, and answers its side and length; or gives the first of the refusals 1 to 13, then
@@ -49,7 +45,7 @@ fn answered(image: &[u8], table: &[u8], q: Question, buffer: &mut [u8]) -> Answe
     let side = side_of(image, table, &next, n, q.goal, env);
     let mut entries = [0u8; setup::ENTRIES];
     setup::prepare(image, table, shape.entries, side, &mut entries);
-    let length = whole(
+    let length = pen::whole(
         image,
         table,
         &next,
@@ -64,7 +60,7 @@ fn answered(image: &[u8], table: &[u8], q: Question, buffer: &mut [u8]) -> Answe
     if buffer.len() < length {
         return Answer::Refused(Refusal::BufferTooShort);
     }
-    whole(
+    pen::whole(
         image,
         table,
         &next,
@@ -92,38 +88,6 @@ fn side_of(image: &[u8], table: &[u8], next: &[u64], n: usize, goal: u8, env: En
     } else {
         1
     }
-}
-
-// One run over a certificate: its header, and its steps.
-fn whole(
-    image: &[u8],
-    table: &[u8],
-    next: &[u64; setup::NEXT],
-    entries: &[u8; setup::ENTRIES],
-    side: u8,
-    writing: bool,
-    goal: u8,
-    start: u8,
-    env: Env,
-    out: &mut [u8],
-) -> usize
-    requires { ⌜ Holding (now image) (now table) (now next) (now entries) side goal env ⌝ }
-    ensures { λ r. ⌜ Wrote writing (wholeBytes (now (image .entry)) (now (table .entry)) side goal start (envOf env))
-        0 (now (out .entry)) (now (out .exit)) r ⌝ }
-{
-    let begun = bytes::header(out, writing, side, goal, start);
-    steps::formula(
-        image,
-        table,
-        next,
-        entries,
-        side,
-        writing,
-        goal,
-        env,
-        out,
-        begun,
-    )
 }
 
 // The writing for callers in C, as one number: `answer::code` says which. The certificate's length goes into a lent number, which a refusal leaves as
