@@ -1,14 +1,15 @@
 -- An entry's formula in hand, from what the readers are lent: the fields of its record, the operands that its rule asks, the stage at which its walk
 -- starts; and a step of it whose head is read.
 --
---     room, kind-is, a-is, b-is, t-is, part-is, binder-is
---                                                   an entry's number is small, and its fields are those of its record on the side
---     start_is, start-inside, at-start              the stage at which its walk starts
+--     room, kind-is, a-is, b-is, x-is, y-is, t-is   an entry's number is small, and its fields are those of its record on the side
+--     start_is, start-inside, from-its-start        the stage at which its walk starts
 --     bound-inside                                  a binding at a stage leaves every variable at one
---     Operand, operand, operand_at                  an operand is in hand too, and its entry is read for it
+--     Operand, a-operand, b-operand, a-bound, b-bound
+--                                                   an operand is in hand too, and its entry is read for it
 --     handed, walking, onto, stage-room             what a reader asks; the walk at a successor; a stage is below the width
---     Arm, arm-of, arm-kind, arm-ruled              a rule is read for the formula in hand, which keeps the rules of the rule's kind
---     Taken, take, take-entry                       then its own condition fails, or holds and the premises are read
+--     Arm, arm-of                                   a rule is read for the formula in hand, and stands in an arm of the code's `match`
+--     arm-ruled, arm-inside                         its record keeps the rules of the rule's kind, and its bytes are there
+--     arm-fails, arm-proves, arm-ends               its condition fails, or holds and then the premises are read, or there are none
 --     head-missing, head-wrong                      no rule is read
 --     next-is                                       the test for a chosen stage asks whether it is a successor
 use Prim.Native.Nat.{ℕ, zero, suc, ◌+◌, ◌≤◌, ◌<◌}
@@ -50,11 +51,10 @@ use Rattle.hand.proofs.EnvironmentLaws.{stage-value, variable-value}
 use Rattle.hand.proofs.HandLaws.{leads-is}
 use Rattle.hand.proofs.SetupLaws.{next-set}
 use Rattle.hand.proofs.SideLaws.{of_number, start-side}
-use Rattle.checker.specs.Reading.{InHand, OnWalk, Handed, Walking, Started, Past, Missed, told}
-use Rattle.checker.specs.Reading.{operand_in, binder_in, read_entry, read_operand, read_part, read_along}
-use Rattle.checker.proofs.ReadingLaws.{goes_on, lower-operand, from_start, step-missing, step-wrong, step-fails, step-proves}
-use Rattle.checker.proofs.ToldLaws.{told_at, told-missing, told-wrong, told-fails, told-stays}
-use Rattle.checker.proofs.PremiseLaws.{Says}
+use Rattle.checker.specs.Reading.{InHand, OnWalk, Handed, Walking, Started, Past, told}
+use Rattle.checker.specs.Reading.{allows, read_entry, read_operand, read_a, read_b, read_along, read_premises_of}
+use Rattle.checker.proofs.ReadingLaws.{lower-operand, from_start, step-missing, step-wrong, step-fails, step-proves}
+use Rattle.checker.proofs.ToldLaws.{told_at, told-missing, told-wrong, told-fails}
 
 -- ---- kinds on a side
 
@@ -138,31 +138,17 @@ module _ {image table sets entries : List ℕ} {side e : ℕ} {env : Env} (hand 
   unfolding entry_at entry_of
   b-is = ap (λ (p : Entry). p.b) entry-is
 
-  x-is : field_at entries 3 e ≡ (record_at table e).x
+  pub x-is : field_at entries 3 e ≡ (record_at table e).x
   unfolding entry_at entry_of
   x-is = ap (λ (p : Entry). p.x) entry-is
 
-  y-is : field_at entries 4 e ≡ (record_at table e).y
+  pub y-is : field_at entries 4 e ≡ (record_at table e).y
   unfolding entry_at entry_of
   y-is = ap (λ (p : Entry). p.y) entry-is
 
   pub t-is : field_at entries 5 e ≡ (record_at table e).t
   unfolding entry_at entry_of
   t-is = ap (λ (p : Entry). p.t) entry-is
-
-  -- An operand stands in field 1 or 2, and two fields after it the variable that is bound in it.
-  module _ {part : ℕ} (some : 1 ≤ part) (two : part ≤ 2) where
-    by_part : (P : ℕ → Type 0) → P 1 → P 2 → P part
-    by_part P one other = ⊎_elim (λ l. subst P (omega arith) one) (λ l. subst P (omega arith) other) (side? part 2)
-
-    pub part-is : field_at entries part e ≡ operand_in part (record_at table e)
-    part-is = by_part (λ (p : ℕ). field_at entries p e ≡ operand_in p (record_at table e)) a-is b-is
-
-    pub binder-is : field_at entries (part + 2) e ≡ binder_in part (record_at table e)
-    binder-is = by_part (λ (p : ℕ). field_at entries (p + 2) e ≡ binder_in p (record_at table e)) x-is y-is
-
-    binder-small : binder_in part (record_at table e) < 4
-    binder-small = by_part (λ (p : ℕ). binder_in p (record_at table e) < 4) (hand.lent.small.x e) (hand.lent.small.y e)
 
   -- Its walk starts where the rules start it, at a stage.
   pub start_is : {s : ℕ} → Started (field_at entries 0 e) (field_at entries 5 e) env s → s ≡ start_in (record_at table e) env
@@ -189,11 +175,11 @@ module _ {image table sets entries : List ℕ} {side e : ℕ} {env : Env} (hand 
 
 -- ---- operands
 
--- An operand of e is in hand, and its entry is read for it, from wherever the reading came to.
+-- An operand of e is in hand, and its entry is read for it.
 pub record Operand (image table : List ℕ) (side : ℕ) (sets entries steps : List ℕ) (e o : ℕ) (env : Env) (read : Reader) : Type 0 where
   pub hand : InHand image table side sets entries o env
   pub lower : o < e
-  pub reads : {p : Progress} (came : Progress) → p ≡ onward came (read_entry image table steps side o env) → p ≡ onward came read
+  pub reads : {p : Progress} (at : ℕ) → p ≡ read_entry image table steps side o env at → p ≡ read at
 
 -- In the same variables.
 pub operand : {image table sets entries : List ℕ} {side e : ℕ} {env : Env} (steps : List ℕ) → InHand image table side sets entries e env
@@ -201,33 +187,51 @@ pub operand : {image table sets entries : List ℕ} {side e : ℕ} {env : Env} (
 operand {image} {table} {sets} {entries} {side} {e} {env} steps hand {o} {f} {i} o_is f-is low = record {
   hand = record { lent = hand.lent; below = omega (arith, hand.below); inside = hand.inside };
   lower = omega arith;
-  reads = λ {p} came p-is. lower-operand image table steps side e i env came low
-      (p-is ∙ ap (λ (j : ℕ). onward came (read_entry image table steps side j env)) (o_is ∙ f-is));
+  reads = λ {p} at p-is. lower-operand image table steps side e i env (Progress.At at) low
+      (p-is ∙ ap (λ (j : ℕ). read_entry image table steps side j env at) (o_is ∙ f-is));
 }
 
--- A modality's, with the variable that it binds at a stage.
+-- With one of them bound to a stage.
 pub operand_at : {image table sets entries : List ℕ} {side e : ℕ} {env env' : Slots} (steps : List ℕ)
-    → InHand image table side sets entries e (env_of env) → {part o z t : ℕ} → 1 ≤ part → part ≤ 2 → field_at entries part e < e
-    → o ≡ field_at entries part e → z ≡ field_at entries (part + 2) e → Bound env z t env' → t < stages_of image
-    → Operand image table side sets entries steps e o (env_of env') (read_part image table steps side e (record_at table e) (env_of env) part t)
-operand_at {image} {table} {sets} {entries} {side} {e} {env} {env'} steps hand {part} {o} {z} {t} some two low o_is z-is b h =
-    let i = operand_in part (record_at table e) in
-    let x = binder_in part (record_at table e) in
-    let x-is : z ≡ x = z-is ∙ binder-is hand some two in
-    let small : z < 4 = omega (arith, x-is, binder-small hand some two) in
-    record {
-      hand = record { lent = hand.lent; below = omega (arith, hand.below); inside = bound-inside b small hand.inside h };
-      lower = omega arith;
-      reads = λ {p} came p-is. lower-operand image table steps side e i (bind (env_of env) x t) came (omega (arith, part-is hand some two))
-          (p-is
-          ∙ ap (λ (j : ℕ). onward came (read_entry image table steps side j (env_of env'))) (o_is ∙ part-is hand some two)
-          ∙ ap (λ (c : Env). onward came (read_entry image table steps side i c)) (b.here small ∙ ap (λ (v : ℕ). bind (env_of env) v t) x-is));
-    }
+    → InHand image table side sets entries e (env_of env) → {o f i z x t : ℕ} → o ≡ f → f ≡ i → i < e → Bound env z t env' → z ≡ x → x < 4
+    → t < stages_of image
+    → Operand image table side sets entries steps e o (env_of env') (read_operand image table steps side e i (bind (env_of env) x t))
+operand_at {image} {table} {sets} {entries} {side} {e} {env} {env'} steps hand {o} {f} {i} {z} {x} {t} o_is f-is low b z-is small h = record {
+  hand = record {
+    lent = hand.lent;
+    below = omega (arith, hand.below);
+    inside = bound-inside b (omega arith) hand.inside h;
+  };
+  lower = omega arith;
+  reads = λ {p} at p-is. lower-operand image table steps side e i (bind (env_of env) x t) (Progress.At at) low
+      (p-is
+      ∙ ap (λ (j : ℕ). read_entry image table steps side j (env_of env') at) (o_is ∙ f-is)
+      ∙ ap (λ (c : Env). read_entry image table steps side i c at) (b.here (omega arith) ∙ ap (λ (v : ℕ). bind (env_of env) v t) z-is));
+}
 
--- A formula stands on its walk at the stage where this starts.
-pub at-start : {image table sets entries : List ℕ} {side e : ℕ} {env : Env} {s : ℕ} → InHand image table side sets entries e env
-    → Started (field_at entries 0 e) (field_at entries 5 e) env s → OnWalk image table side sets entries e env s
-at-start hand h = record { hand = hand; stage = start-inside hand h }
+-- The a and the b of an entry, with its variables as they are, and with x and y at a stage.
+module _ {image table sets entries : List ℕ} {side e : ℕ} (steps : List ℕ) where
+  pub a-operand : {env : Env} → InHand image table side sets entries e env → (record_at table e).a < e → {o : ℕ} → o ≡ field_at entries 1 e
+      → Operand image table side sets entries steps e o env (read_operand image table steps side e (record_at table e).a env)
+  a-operand hand low o_is = operand steps hand o_is (a-is hand) low
+
+  pub b-operand : {env : Env} → InHand image table side sets entries e env → (record_at table e).b < e → {o : ℕ} → o ≡ field_at entries 2 e
+      → Operand image table side sets entries steps e o env (read_operand image table steps side e (record_at table e).b env)
+  b-operand hand low o_is = operand steps hand o_is (b-is hand) low
+
+  module _ {env env' : Slots} {t : ℕ} (hand : InHand image table side sets entries e (env_of env)) where
+    pub a-bound : (record_at table e).a < e → {o : ℕ} → o ≡ field_at entries 1 e → Bound env (field_at entries 3 e) t env' → t < stages_of image
+        → Operand image table side sets entries steps e o (env_of env') (read_a image table steps side e (record_at table e) (env_of env) t)
+    a-bound low o_is b h = operand_at steps hand o_is (a-is hand) low b (x-is hand) (hand.lent.small.x e) h
+
+    pub b-bound : (record_at table e).b < e → {o : ℕ} → o ≡ field_at entries 2 e → Bound env (field_at entries 4 e) t env' → t < stages_of image
+        → Operand image table side sets entries steps e o (env_of env') (read_b image table steps side e (record_at table e) (env_of env) t)
+    b-bound low o_is b h = operand_at steps hand o_is (b-is hand) low b (y-is hand) (hand.lent.small.y e) h
+
+-- A formula that is no leaf is on its walk from its start.
+pub from-its-start : {image table sets entries : List ℕ} {side e : ℕ} {env : Env} {s : ℕ} → InHand image table side sets entries e env
+    → 4 ≤ field_at entries 0 e → Started (field_at entries 0 e) (field_at entries 5 e) env s → OnWalk image table side sets entries e env s
+from-its-start hand deep h = record { hand = hand; stage = start-inside hand h; deep = deep }
 
 -- What a reader asks, of the setup at hand.
 pub handed : {image table sets entries : List ℕ} {side e : ℕ} {env : Env} → InHand image table side sets entries e env → Handed sets entries e env
@@ -240,7 +244,7 @@ walking w = record { image = _; table = _; side = _; walk = w }
 -- The walk at a successor.
 pub onto : {image table sets entries : List ℕ} {side e : ℕ} {env : Env} {s : ℕ} (c : ℕ) → OnWalk image table side sets entries e env s
     → T ((graph_of image).next s c) → OnWalk image table side sets entries e env c
-onto {s = s} c w h = record { hand = w.hand; stage = (w.hand.lent.small.graph.inside s c h).1 }
+onto {s = s} c w h = record { hand = w.hand; stage = (w.hand.lent.small.graph.inside s c h).1; deep = w.deep }
 
 -- A stage is below the width.
 pub stage-room : {image table sets entries : List ℕ} {side e : ℕ} {env : Env} {s : ℕ} → OnWalk image table side sets entries e env s → s < width
@@ -257,27 +261,19 @@ module _ {image table sets entries : List ℕ} (steps : List ℕ) {side e : ℕ}
   head-of : h ≡ head_of steps at (kind_in side (record_at table e))
   head-of = h-is ∙ ap (head_of steps at) (is ∙ kind-is hand)
 
-  pub arm-of : {q : Rule} {next : ℕ} → h ≡ Head.Step q next → Arm image table side sets entries steps e env at q next
-  arm-of f = record { hand = hand; head = sym head-of ∙ f }
+  pub arm-of : {rule q : Rule} {next : ℕ} → h ≡ Head.Step rule next → rule ≡ q → Arm image table side sets entries steps e env at q next
+  arm-of {next = next} f g = record { hand = hand; head = sym head-of ∙ f ∙ ap (λ (q : Rule). Head.Step q next) g }
 
-  -- No rule is read: from a place in the steps, or from a fault.
-  module _ (set s came : ℕ) where
-    pub head-missing : {r : ℕ} → h ≡ Head.Missing → Missed (length steps) at r
-        → told (length steps) r came ≡ onward (told (length steps) at came) (read_along image table steps side e env set s)
-    head-missing {r} f m = ⊎_elim
-        (λ l. ap (λ (p : ℕ). told (length steps) p came) (m.stays l) ∙ sym (told-stays came l (read_along image table steps side e env set s)))
-        (λ l. told-missing (length steps) r came (m.ends l) ∙ step-missing image table steps side e refl env set s at (told_at came l) refl head-of f)
-        (side? (length steps) at)
+  -- No rule is read.
+  pub head-missing : (set s fault : ℕ) {r : ℕ} → h ≡ Head.Missing → r ≡ length steps + 1
+      → told (length steps) r fault ≡ read_along image table steps side e env set s at
+  head-missing set s fault {r} f r-is =
+      told-missing (length steps) r fault r-is ∙ step-missing image table steps side e refl env set s at refl refl head-of f
 
-    pub head-wrong : {r fault : ℕ} → h ≡ Head.Wrong → Past 2 steps at fault r
-        → told (length steps) r fault ≡ onward (told (length steps) at came) (read_along image table steps side e env set s)
-    head-wrong f p = ⊎_elim
-        (λ l. told-wrong p ∙ step-wrong image table steps side e refl env set s at (told_at came (omega arith)) refl head-of f)
-        (λ l. none (no_code_lem steps at (kind_in side (record_at table e)) l ∙ sym head-of ∙ f))
-        (side? at (length steps))
-      where
-        none : {A : Type 0} → Head.Missing ≡ Head.Wrong → A
-        none e = let z : ◌≡◌ {A = ℕ} 0 1 = cc in absurd (omega arith)
+  pub head-wrong : (set s : ℕ) {r fault : ℕ} → h ≡ Head.Wrong → Past 2 steps at fault r
+      → told (length steps) r fault ≡ read_along image table steps side e env set s at
+  head-wrong set s f p =
+      told-wrong p ∙ step-wrong image table steps side e refl env set s at refl refl head-of f
 
 module _ {image table sets entries steps : List ℕ} {side e : ℕ} {env : Env} {at : ℕ} {q : Rule} {next : ℕ}
     (arm : Arm image table side sets entries steps e env at q next) where
@@ -299,46 +295,32 @@ module _ {image table sets entries steps : List ℕ} {side e : ℕ} {env : Env} 
       subst (λ (j : Kind). RuledAs (sort_of j) image e (record_at table e)) k-is
       (ruled-side image e (record_at table e) side (kind_of (record_at table e).kind) (arm.hand.lent.ruled e arm.hand.below))
 
-  -- Its code is there,
-  begins : at < length steps
-  begins = ⊎_elim (λ l. l) (λ l. none (no_code_lem steps at (kind_in side (record_at table e)) l ∙ arm.head)) (side? at (length steps))
+  -- and the rule's own bytes are there.
+  pub arm-inside : next ≤ length steps
+  arm-inside = ⊎_elim
+      (λ l. inside (head-begins steps at (kind_in side (record_at table e)) arm.head).0 (omega arith))
+      (λ l. none (no_code_lem steps at (kind_in side (record_at table e)) l ∙ arm.head))
+      (side? at (length steps))
     where
-      none : {A : Type 0} → Head.Missing ≡ Head.Step q next → A
-      none e = let z : ◌≡◌ {A = ℕ} 0 1 = cc in absurd (omega arith)
+      none : Head.Missing ≡ Head.Step q next → next ≤ length steps
+      none f = let z : ◌≡◌ {A = ℕ} 0 1 = cc in absurd (omega arith)
 
-  -- and so is all that the rule has of its own.
-  ends : next ≤ length steps
-  ends = inside (head-begins steps at (kind_in side (record_at table e)) arm.head).0 (omega (arith, begins))
+  module _ (set s : ℕ) where
+    -- Its condition fails,
+    pub arm-fails : {r fault : ℕ} → allows image (record_at table e) env set s q ≡ false → Past 3 steps at fault r
+        → told (length steps) r fault ≡ read_along image table steps side e env set s at
+    arm-fails f p = told-fails p ∙ step-fails image table steps side e refl env set s at refl refl refl arm.head refl f
 
--- What follows of a step whose rule is read, up to `next`: its own condition, `holds`, fails and is told, or holds, and the premises are read.
-pub record Taken (steps : List ℕ) (at next : ℕ) (holds : Bool) (read whole : Reader) : Type 0 where
-  pub fails : (came : ℕ) {r fault : ℕ} → holds ≡ false → Past 3 steps at fault r
-      → told (length steps) r fault ≡ onward (told (length steps) at came) whole
-  pub reads : (came came' : ℕ) {p : Progress} → holds ≡ true → p ≡ onward (told (length steps) next came') read
-      → p ≡ onward (told (length steps) at came) whole
+    -- or holds, and then the premises are read,
+    pub arm-proves : {p : Progress} → allows image (record_at table e) env set s q ≡ true
+        → p ≡ read_premises_of image table steps side e (record_at table e) env set s q next → p ≡ read_along image table steps side e env set s at
+    arm-proves f p-is = step-proves image table steps side e refl env set s at refl refl refl arm.head refl f p-is
 
-module _ {image table sets entries steps : List ℕ} {side e : ℕ} {env : Env} {at : ℕ} {q : Rule} {next : ℕ}
-    (arm : Arm image table side sets entries steps e env at q next) where
-  pub take : {set s : ℕ} {holds : Bool} {read : Reader} {lower : Type 0} → Says image table steps side e env set s q holds read lower
-      → Taken steps at next holds read (read_along image table steps side e env set s)
-  take {set} {s} {holds} {read} says = record {
-    fails = λ came f p.
-        told-fails p ∙ step-fails image table steps side e refl env set s at (told_at came (omega (arith, begins arm))) refl refl arm.head
-        (sym says.allowed) f;
-    reads = λ came came' f p-is.
-        step-proves image table steps side e refl env set s at (told_at came (omega (arith, begins arm))) refl refl arm.head (sym says.allowed) f
-        (p-is ∙ goes_on read (told_at came' (ends arm)) ∙ sym (says.reads next));
-  }
-
-  -- From the start of a walk this is the reading of the entry.
-  pub take-entry : {s : ℕ} {holds : Bool} {read : Reader} {lower : Type 0} → s ≡ start_in (record_at table e) env
-      → Says image table steps side e env 0 s q holds read lower → Taken steps at next holds read (read_entry image table steps side e env)
-  take-entry s-is says =
-      let taken = take says in
-      record {
-        fails = λ came f p. from_start image table steps side e refl env (told (length steps) at came) refl s-is (taken.fails came f p);
-        reads = λ came came' f p-is. from_start image table steps side e refl env (told (length steps) at came) refl s-is (taken.reads came came' f p-is);
-      }
+    -- or there are none.
+    pub arm-ends : (fault : ℕ) → allows image (record_at table e) env set s q ≡ true
+        → Progress.At next ≡ read_premises_of image table steps side e (record_at table e) env set s q next
+        → told (length steps) next fault ≡ read_along image table steps side e env set s at
+    arm-ends fault f none = arm-proves f (told_at fault arm-inside ∙ none)
 
 -- The test for a chosen stage asks whether it is a successor.
 pub next-is : {image table sets entries : List ℕ} {side e : ℕ} {env : Env} {s k : ℕ} (c : ℕ) {b : Bool} → OnWalk image table side sets entries e env s

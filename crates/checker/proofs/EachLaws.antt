@@ -5,6 +5,7 @@
 --     turn-of              a turn, from what the contracts of `is_empty`, `lowest` and `rest` say
 --     each_start, each-stage, each_next, each-end
 --                          the loop over the successors of a stage of an image
+--     each-stops           a fault on the way is the loop's answer
 use Prim.Native.Nat.{ℕ, zero, suc, ◌-◌, ◌^◌, ◌≤◌, ◌<◌}
 use native.Mathlib.Omega.{arith}
 use mathlib.Core.Path.{◌≡◌, refl, sym, ap, ap₂, subst, ◌∙◌, fun_ext}
@@ -106,6 +107,21 @@ module _ (n : ℕ) (next : ℕ → Bool) (inside : (t : ℕ) → T (next t) → 
       go t h true e = absurd (none t ((g.rest t).1 (subst T (sym e) tt, h)))
       go t h false e = e
 
+  -- A fault stays, so where the reading has one the rest of the turns change nothing.
+  turns-stop : {left : ℕ} {here : Progress} → Turns n next read came left here → ((k : Reader) → onward here k ≡ here)
+      → here ≡ onward came (through n next read)
+  turns-stop {left} {here} g stays = up n g.within
+    where
+      upto : (j : ℕ) → g.from ≡ j → here ≡ onward came (through j next read)
+      upto j e = subst (λ (i : ℕ). here ≡ onward came (through i next read)) e g.reads
+
+      up : (j : ℕ) → g.from ≤ j → here ≡ onward came (through j next read)
+      up zero h = upto zero (omega arith)
+      up (suc j) h = ⊎_elim
+          (λ l. upto (suc j) (omega arith))
+          (λ l. in-turn came (through j next read) (visit (next j) (read j)) (up j l) (sym (stays (visit (next j) (read j)))))
+          (side? j g.from)
+
 -- A turn, as the code's tests and calls tell it.
 pub turn-of : {left k left' : ℕ} (e : Bool) → Decides e (Empty left) → not e ≡ true → k ≡ count_trailing_zeros width left → left' ≡ bit_and left (left - 1)
     → Turn left k left'
@@ -133,3 +149,7 @@ module _ {image table : List ℕ} (small : Small image table) (s : ℕ) (read : 
   pub each-end : {left : ℕ} {here : Progress} → Each left here → (e : Bool) → Decides e (Empty left) → not e ≡ false
       → here ≡ onward came (through (stages_of image) ((graph_of image).next s) read)
   each-end {left} g e d f = turns-end (stages_of image) ((graph_of image).next s) inside read came g (granted e (Empty left) d f)
+
+  pub each-stops : {left : ℕ} {here : Progress} → Each left here → ((k : Reader) → onward here k ≡ here)
+      → here ≡ onward came (through (stages_of image) ((graph_of image).next s) read)
+  each-stops g stays = turns-stop (stages_of image) ((graph_of image).next s) inside read came g stays

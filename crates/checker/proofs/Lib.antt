@@ -1,14 +1,14 @@
 -- The laws of checking, over plain values: each function's proof hands its facts to them. Then what is promised (`Promise`), and document 01's
 -- marked cases (`Example`).
+pub mod ConditionLaws
 pub mod StepLaws
 pub mod ToldLaws
 pub mod ReadingLaws
 pub mod WalkLaws
 pub mod EachLaws
 pub mod StartLaws
-pub mod PremiseLaws
 pub mod ArmLaws
-pub mod TurnLaws
+pub mod LeafLaws
 pub mod LoopLaws
 pub mod CheckLaws
 pub mod ByteLaws

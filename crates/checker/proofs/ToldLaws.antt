@@ -2,6 +2,7 @@
 --
 --     told_at, told-missing, told-wrong, told-fails     what each answer tells
 --     told-stays                                        past the steps' end it is a fault, which stays
+--     stops, goes                                       a second reading after a first: none after a fault, else it goes on from the place
 use Prim.Native.Nat.{ℕ, ◌+◌, ◌≤◌, ◌<◌}
 use native.Mathlib.Omega.{arith}
 use mathlib.Core.Path.{◌≡◌, refl, sym, ap, ◌∙◌}
@@ -67,3 +68,11 @@ fault-stays false false fault k = refl
 pub told-stays : {size r : ℕ} (fault : ℕ) → size < r → (k : Reader) → onward (told size r fault) k ≡ told size r fault
 told-stays {size} {r} fault h k =
     ap (λ (p : Progress). onward p k) (past fault h) ∙ fault-stays (eqb r (size + 1)) (eqb r (size + 2)) fault k ∙ sym (past fault h)
+
+-- A first reading has a fault, and no second is made.
+pub stops : {size r : ℕ} (fault : ℕ) {p : Progress} (k : Reader) → size < r → told size r fault ≡ p → told size r fault ≡ onward p k
+stops fault k h e = sym (told-stays fault h k) ∙ ap (λ (p : Progress). onward p k) e
+
+-- It came to a place, and the second goes on from there.
+pub goes : {size r : ℕ} (fault : ℕ) {p q : Progress} (k : Reader) → r ≤ size → told size r fault ≡ p → q ≡ k r → q ≡ onward p k
+goes fault k h e q-is = q-is ∙ ap (λ (p : Progress). onward p k) (sym (told_at fault h) ∙ e)

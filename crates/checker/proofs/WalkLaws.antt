@@ -1,8 +1,7 @@
 -- A walk that is held as a set: what it is with a stage added.
 --
 --     grows              one stage more is on the walk, and there was room for it
---     along-on, read-on, read-each-on
---                        the walk with a stage added is read as the rules' longer walk
+--     along-on           the walk with a stage added is read as the rules' longer walk
 use Prim.Native.Nat.{ℕ, suc, ◌-◌, ◌^◌, ◌<◌}
 use native.Mathlib.Omega.{arith}
 use mathlib.Core.Path.{◌≡◌, sym, ap, ap₂, subst, ◌∙◌, fun_ext}
@@ -19,12 +18,11 @@ use Rattle.sets.specs.Member.{bit, Has}
 use Rattle.sets.specs.Number.{single, width}
 use Rattle.sets.proofs.LawsMember.{same?, has?, has-with, within-lt}
 use Rattle.sets.proofs.LawsCount.{ones-with, ones_lt}
-use Rattle.format.specs.Image.{stages_of, member, graph_of}
+use Rattle.format.specs.Image.{member, graph_of}
 use Rattle.format.specs.Table.{tree_of}
-use Rattle.rules.specs.Reading.{Reader, onward, through, read_walk}
-use Rattle.rules.specs.declared.Progress.{Progress}
+use Rattle.rules.specs.Reading.{read_walk}
 use Rattle.hand.specs.Side.{sided}
-use Rattle.checker.specs.Reading.{walk_of, read_along, read_on, read_each_on}
+use Rattle.checker.specs.Reading.{walk_of, read_along, read_on}
 
 -- A stage that is in a set, and one that is not.
 pub member-has : (s k : ℕ) → Has s k → member s k ≡ true
@@ -62,22 +60,9 @@ module _ {set s : ℕ} (small : set < 2 ^ width) (room : s < width) (off : Has s
           ∙ ap (λ (b : Bool). b || member set t) (sym (ne_eqb t s n))
 
   -- The walk is read as the rules' walk with s added, and its fuel is one less.
-  along-on : (image table bytes : List ℕ) (side e : ℕ) (env : Env) (t : ℕ)
+  pub along-on : (image table bytes : List ℕ) (side e : ℕ) (env : Env) (t : ℕ)
       → read_along image table bytes side e env longer t ≡ read_on image table bytes side e env set s t
   unfolding read_along read_on
   along-on image table bytes side e env t =
       let fuel : suc (width - ones longer) ≡ width - ones set = omega (arith, grows.0, grows.1) in
       ap₂ (λ (n : ℕ) (w : Walk). read_walk width (graph_of image) bytes (sided side (tree_of image table e)) env n w t) fuel walk-on
-
-  -- So what is read along it is what the rules read further on, at a stage and at each successor.
-  module _ (image table bytes : List ℕ) (side e : ℕ) (env : Env) (came : Progress) {p : Progress} where
-    pub read-on : (t : ℕ) → p ≡ onward came (read_along image table bytes side e env longer t)
-        → p ≡ onward came (read_on image table bytes side e env set s t)
-    read-on t p-is = p-is ∙ ap (onward came) (along-on image table bytes side e env t)
-
-    pub read-each-on : p ≡ onward came (through (stages_of image) ((graph_of image).next s) (read_along image table bytes side e env longer))
-        → p ≡ onward came (read_each_on image table bytes side e env set s)
-    read-each-on p-is =
-        p-is
-        ∙ ap (λ (read : ℕ → Reader). onward came (through (stages_of image) ((graph_of image).next s) read))
-        (fun_ext (λ (t : ℕ). along-on image table bytes side e env t))

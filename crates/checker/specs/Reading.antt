@@ -55,13 +55,6 @@ abbrev pub within : Bool → Env → ℕ → ℕ → Env
 within true env x s = bind env x s
 within false env x s = env
 
--- An operand of a record, a or b, and the variable that is bound in it, x or y, by the operand's field.
-abbrev pub operand_in : ℕ → Record → ℕ
-operand_in part r = pick (eqb part 1) r.a r.b
-
-abbrev pub binder_in : ℕ → Record → ℕ
-binder_in part r = pick (eqb part 1) r.x r.y
-
 module _ (image table bytes : List ℕ) (side : ℕ) where
   -- An entry's formula, and that of an operand of entry e.
   unfoldable pub read_entry : ℕ → Env → Reader
@@ -76,10 +69,6 @@ module _ (image table bytes : List ℕ) (side : ℕ) where
 
   abbrev pub read_b : ℕ → Record → Env → ℕ → Reader
   read_b e r env t = read_operand e r.b (bind env r.y t)
-
-  -- The same by the field in which the operand's number stands.
-  abbrev pub read_part : ℕ → Record → Env → ℕ → ℕ → Reader
-  read_part e r env part t = read_operand e (operand_in part r) (bind env (binder_in part r) t)
 
   -- A walk, with fuel for every stage that is not on it; and the same further on, with s added to it.
   unfoldable pub read_along : ℕ → Env → ℕ → ℕ → Reader
@@ -122,6 +111,7 @@ pub record InHand (image table : List ℕ) (side : ℕ) (sets entries : List ℕ
 pub record OnWalk (image table : List ℕ) (side : ℕ) (sets entries : List ℕ) (e : ℕ) (env : Env) (s : ℕ) : Type 0 where
   pub hand : InHand image table side sets entries e env
   pub stage : s < stages_of image
+  pub deep : 4 ≤ field_at entries 0 e
 
 -- The same of some setup: what a reader asks. It answers for every setup of which it is so.
 pub record Handed (sets entries : List ℕ) (e : ℕ) (env : Env) : Type 0 where
@@ -149,11 +139,6 @@ faulted size r fault =
 unfoldable pub told : ℕ → ℕ → ℕ → Progress
 told size r fault = whether (ltb size r) (faulted size r fault) (Progress.At r)
 
--- No step is read at a place: past the steps' end the place stays, and up to it a byte is missing.
-pub record Missed (size at r : ℕ) : Type 0 where
-  pub stays : size < at → r ≡ at
-  pub ends : at ≤ size → r ≡ size + 1
-
 -- A fault is told: so far past the steps' end, and at a place.
 pub record Past (far : ℕ) (steps : List ℕ) (at fault r : ℕ) : Type 0 where
   pub is : r ≡ length steps + far
@@ -163,38 +148,27 @@ pub record Past (far : ℕ) (steps : List ℕ) (at fault r : ℕ) : Type 0 where
 pub record Started (kind t : ℕ) (env : Env) (s : ℕ) : Type 0 where
   pub is : s ≡ pick (ltb kind 6) 0 (value env (term_of t))
 
--- An operand is asked for at a stage t: a or b, of a lower number.
-pub record Asked (sets entries : List ℕ) (e : ℕ) (env : Env) (part t : ℕ) : Type 0 where
-  pub walking : Walking sets entries e env t
-  pub some : 1 ≤ part
-  pub two : part ≤ 2
-  pub lower : field_at entries part e < e
-
--- A walk goes on from s, which is not on it.
-pub record Going (sets entries : List ℕ) (e : ℕ) (env : Env) (set s : ℕ) : Type 0 where
+-- A walk may go on from s at c: s is not on it, c is a successor of s, and the entry's a has a lower number.
+pub record Led (sets entries : List ℕ) (e : ℕ) (env : Env) (set s c : ℕ) : Type 0 where
   pub walking : Walking sets entries e env s
-  pub deep : 8 ≤ field_at entries 0 e
+  pub lower : field_at entries 1 e < e
   pub off : Has set s → ⊥
+  pub next : T ((graph_of walking.image).next s c)
 
--- What the readers answer, from the place `at` that the reading came to, with a fault's own place: of an entry; of an operand at a stage; of a at each
--- successor; of a walk; of the walk, with its stage added, at each successor.
-module _ (sets entries steps : List ℕ) (e : ℕ) (env : Env) (at came : ℕ) where
-  pub record FormulaRead (fault r : ℕ) : Type 0 where
+-- What the readers answer, from a place on: of an entry; of a walk; of a walk's a at a stage and then the walk at another; of a at each successor.
+module _ (sets entries steps : List ℕ) (e : ℕ) (env : Env) where
+  pub record FormulaRead (at fault r : ℕ) : Type 0 where
     pub is : {image table : List ℕ} {side : ℕ} → InHand image table side sets entries e env
-        → told (length steps) r fault ≡ onward (told (length steps) at came) (read_entry image table steps side e env)
+        → told (length steps) r fault ≡ read_entry image table steps side e env at
 
-  pub record OperandRead (part t fault r : ℕ) : Type 0 where
-    pub is : {image table : List ℕ} {side : ℕ} → OnWalk image table side sets entries e env t
-        → told (length steps) r fault ≡ onward (told (length steps) at came) (read_part image table steps side e (record_at table e) env part t)
-
-  pub record EachRead (s fault r : ℕ) : Type 0 where
+  pub record WalkRead (set s at fault r : ℕ) : Type 0 where
     pub is : {image table : List ℕ} {side : ℕ} → OnWalk image table side sets entries e env s
-        → told (length steps) r fault ≡ onward (told (length steps) at came) (read_each_a image table steps side e (record_at table e) env s)
+        → told (length steps) r fault ≡ read_along image table steps side e env set s at
 
-  pub record WalkRead (set s fault r : ℕ) : Type 0 where
-    pub is : {image table : List ℕ} {side : ℕ} → OnWalk image table side sets entries e env s
-        → told (length steps) r fault ≡ onward (told (length steps) at came) (read_along image table steps side e env set s)
+  pub record OnRead (set s c at fault r : ℕ) : Type 0 where
+    pub is : {image table : List ℕ} {side : ℕ} → OnWalk image table side sets entries e env s → T ((graph_of image).next s c)
+        → told (length steps) r fault ≡ onward (read_a image table steps side e (record_at table e) env s at) (read_on image table steps side e env set s c)
 
-  pub record OnEachRead (set s fault r : ℕ) : Type 0 where
+  pub record EachRead (s at fault r : ℕ) : Type 0 where
     pub is : {image table : List ℕ} {side : ℕ} → OnWalk image table side sets entries e env s
-        → told (length steps) r fault ≡ onward (told (length steps) at came) (read_each_on image table steps side e env set s)
+        → told (length steps) r fault ≡ read_each_a image table steps side e (record_at table e) env s at

@@ -2,7 +2,6 @@
 // knows how a certificate was found.
 pub mod answer;
 mod header;
-mod premises;
 mod steps;
 
 ghost use Rattle.std.specs.Prelude.{◌≤◌, length};

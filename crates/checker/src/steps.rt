@@ -1,35 +1,20 @@
-// Reading the steps of a proof: a formula step hands over to a walk, and the walk back to formula steps. Each reader takes the place that the reading came
-// to, and answers the place that it comes to, or one of three past the steps' end: 1 past it where a byte is missing, 2 for a code that is not one for the
-// formula in hand, 3 for a condition that fails; `fault` then holds the place of the code. From a place past the end it answers that place: a fault stays.
-// Two numbers fall: the entry's, at each operand, and how many stages are not on the walk, where a walk goes on. Entry, kind and stages are those of a setup
-// that was read, so nothing here tests them again.
-ghost use Rattle.std.specs.Prelude.{◌≡◌, ◌≤◌, ◌<◌, length};
+// Reading the steps of a proof: a formula step hands over to a walk, and the walk back to formula steps. Each reader takes a place in the steps and answers
+// the place that it comes to, or one of three past the steps' end: 1 past it where a byte is missing, 2 for a code that is not one for the formula in hand, 3
+// for a condition that fails; `fault` then holds the place of the code. Two numbers fall: the entry's, at each operand, and how many stages are not on the
+// walk, where a walk goes on. Entry, kind and stages are those of a setup that was read, so nothing here tests them again.
+ghost use Rattle.std.specs.Prelude.{◌≡◌, ◌+◌, ◌≤◌, ◌<◌, length};
 ghost use Rattle.model.specs.Decides.{Decides};
 ghost use Rattle.sets.specs.Member.{Has};
 ghost use Rattle.sets.specs.Number.{number, width};
 ghost use Rattle.sets.specs.Row.{held};
-ghost use Rattle.hand.specs.Environment.{env_of};
-ghost use Rattle.hand.specs.Setup.{atom_from, entry_at, field_at, most_entries};
-ghost use Rattle.checker.specs.Premises.{leaf_allows};
-ghost use Rattle.checker.specs.Reading.{Asked, EachRead, FormulaRead, Going, Handed, Missed, OnEachRead, OperandRead, Past, Started, WalkRead, Walking};
+ghost use Rattle.hand.specs.Environment.{Bound, env_of};
+ghost use Rattle.hand.specs.Setup.{field_at, most_entries};
+ghost use Rattle.checker.specs.Reading.{EachRead, FormulaRead, Handed, Led, OnRead, Past, Started, WalkRead, Walking};
 
-use crate::premises;
-use crate::premises::{Along, Plain};
 use hand::env::Env;
 use hand::{env, setup};
-use rules::Head;
+use rules::{Head, Rule};
 use sets::Set;
-
-// No code at a place: a byte is missing there, or a fault came before.
-fn missing(steps: &[u8], at: usize) -> usize
-    ensures { Missed (length steps.now) at result }
-{
-    if steps.len() < at {
-        at
-    } else {
-        steps.len() + 1
-    }
-}
 
 // A code that is not one for the formula in hand, and a condition that fails, at a place.
 fn wrong(steps: &[u8], at: usize, fault: &mut usize) -> usize
@@ -61,6 +46,21 @@ fn leads(sets: &[u64; setup::SETS], k: usize, c: u8) -> bool
     sets::has(setup::set(sets, k), c as usize)
 }
 
+// The variables with an entry's x, and with its y, at a stage.
+fn x_at(entries: &[u8; setup::ENTRIES], e: u8, env: Env, t: u8) -> Env
+    requires { e < most_entries }
+    ensures { Bound env (field_at entries.now 3 e) t result }
+{
+    env.bound(setup::field(entries, setup::X, e), t)
+}
+
+fn y_at(entries: &[u8; setup::ENTRIES], e: u8, env: Env, t: u8) -> Env
+    requires { e < most_entries }
+    ensures { Bound env (field_at entries.now 4 e) t result }
+{
+    env.bound(setup::field(entries, setup::Y, e), t)
+}
+
 // The stage at which the walk of an entry's formula starts: that of a modality's term; of another formula, 0.
 fn start(entries: &[u8; setup::ENTRIES], e: u8, env: Env) -> u8
     requires { e < most_entries }
@@ -73,15 +73,8 @@ fn start(entries: &[u8; setup::ENTRIES], e: u8, env: Env) -> u8
     }
 }
 
-// The walk of a formula that is begun: it stands on no stage yet, whatever walk is under way around the formula.
-fn fresh_walk() -> Set
-    ensures { number result ≡ 0 }
-{
-    sets::empty()
-}
-
 // An entry's formula, from the start of its walk.
-#[cycle(at_each_formula_on_each_operand_step_walk)]
+#[cycle(at_each_formula_go_on_walk)]
 pub(crate) fn formula(
     sets: &[u64; setup::SETS],
     entries: &[u8; setup::ENTRIES],
@@ -92,20 +85,23 @@ pub(crate) fn formula(
     fault: &mut usize,
 ) -> usize
     requires { Handed sets.now entries.now e (env_of env) }
-    ensures { FormulaRead sets.now entries.now steps.now e (env_of env) at fault.old fault.new result }
+    ensures { FormulaRead sets.now entries.now steps.now e (env_of env) at fault.new result }
 {
-    let kind = setup::field(entries, setup::KIND, e);
-    if kind < 4 {
+    if setup::field(entries, setup::KIND, e) < 4 {
         return leaf(sets, entries, steps, e, env, at, fault);
-    }
-    if kind < 8 {
-        return step(sets, entries, steps, e, env, at, fault);
     }
     let s = start(entries, e, env);
     walk(sets, entries, steps, e, env, fresh_walk(), s, at, fault)
 }
 
-// "True", "false" or an atom: one step with no premises. For "false" there is no rule.
+// The walk of a formula that is begun: it stands on no stage yet, whatever walk is under way around the formula.
+fn fresh_walk() -> Set
+    ensures { number result ≡ 0 }
+{
+    sets::empty()
+}
+
+// "True", "false" or an atom: one step with no premises, so that there is no walk. For "false" there is no rule.
 fn leaf(
     sets: &[u64; setup::SETS],
     entries: &[u8; setup::ENTRIES],
@@ -116,124 +112,36 @@ fn leaf(
     fault: &mut usize,
 ) -> usize
     requires { Handed sets.now entries.now e (env_of env) × (field_at entries.now 0 e < 4) }
-    ensures { FormulaRead sets.now entries.now steps.now e (env_of env) at fault.old fault.new result }
-{
-    match rules::read_head(steps, at, setup::field(entries, setup::KIND, e)) {
-        Head::Step(_, begun) => {
-            if !states_so(sets, entries, e, env) {
-                return fails(steps, at, fault);
-            }
-            begun
-        }
-        Head::Missing => missing(steps, at),
-        Head::Wrong => wrong(steps, at, fault),
-    }
-}
-
-// Whether it is as "true", an atom or a negated atom states.
-fn states_so(sets: &[u64; setup::SETS], entries: &[u8; setup::ENTRIES], e: u8, env: Env) -> bool
-    requires { e < most_entries }
-    ensures { result ≡ leaf_allows (field_at entries.now 0 e) (atom_from sets.now (entry_at entries.now e) (env_of env)) }
+    ensures { FormulaRead sets.now entries.now steps.now e (env_of env) at fault.new result }
 {
     let kind = setup::field(entries, setup::KIND, e);
-    if kind == 0 {
-        return true;
-    }
-    let atom = setup::atom(sets, entries, e, env);
-    if kind == 2 { atom } else { !atom }
-}
-
-// "And", "or", AX or EX: the code byte, 23, the chosen byte, 24, and then the premises, in order.
-#[cycle(at_each_formula_on_each_operand_step_walk)]
-fn step(
-    sets: &[u64; setup::SETS],
-    entries: &[u8; setup::ENTRIES],
-    steps: &[u8],
-    e: u8,
-    env: Env,
-    at: usize,
-    fault: &mut usize,
-) -> usize
-    requires { Handed sets.now entries.now e (env_of env) × ((4 ≤ field_at entries.now 0 e) × (field_at entries.now 0 e < 8)) }
-    ensures { FormulaRead sets.now entries.now steps.now e (env_of env) at fault.old fault.new result }
-{
-    match rules::read_head(steps, at, setup::field(entries, setup::KIND, e)) {
-        Head::Step(rule, begun) => {
-            let a = setup::field(entries, setup::A, e);
-            let b = setup::field(entries, setup::B, e);
-            let s = start(entries, e, env);
-            match premises::plain_of(rule) {
-                Plain::Nothing => begun,
-                Plain::Left => formula(sets, entries, steps, a, env, begun, fault),
-                Plain::Right => formula(sets, entries, steps, b, env, begun, fault),
-                Plain::Both => {
-                    let here = formula(sets, entries, steps, a, env, begun, fault);
-                    formula(sets, entries, steps, b, env, here, fault)
+    match rules::read_head(steps, at, kind) {
+        Head::Step(_, begun) => {
+            if kind == 0 {
+                return begun;
+            }
+            if setup::atom(sets, entries, e, env) {
+                if kind == 2 {
+                    begun
+                } else {
+                    fails(steps, at, fault)
                 }
-                Plain::Each => at_each(sets, entries, steps, e, env, s, begun, fault),
-                Plain::There => {
-                    let c = rules::chosen(rule);
-                    if !leads(sets, index(s), c) {
-                        return fails(steps, at, fault);
-                    }
-                    operand(sets, entries, steps, e, env, setup::A, c, begun, fault)
+            } else {
+                if kind == 2 {
+                    fails(steps, at, fault)
+                } else {
+                    begun
                 }
             }
         }
-        Head::Missing => missing(steps, at),
+        Head::Missing => steps.len() + 1,
         Head::Wrong => wrong(steps, at, fault),
     }
 }
 
-// An operand of a modality, a or b, with the variable that is bound in it at a stage: x stands two fields after a, and y after b.
-#[cycle(at_each_formula_on_each_operand_step_walk)]
-fn operand(
-    sets: &[u64; setup::SETS],
-    entries: &[u8; setup::ENTRIES],
-    steps: &[u8],
-    e: u8,
-    env: Env,
-    part: usize,
-    t: u8,
-    at: usize,
-    fault: &mut usize,
-) -> usize
-    requires { Asked sets.now entries.now e (env_of env) part t }
-    ensures { OperandRead sets.now entries.now steps.now e (env_of env) at fault.old part t fault.new result }
-{
-    let o = setup::field(entries, part, e);
-    let bound = env.bound(setup::field(entries, part + 2, e), t);
-    formula(sets, entries, steps, o, bound, at, fault)
-}
-
-// AX: a at each successor of s, ascending.
-#[cycle(at_each_formula_on_each_operand_step_walk)]
-fn at_each(
-    sets: &[u64; setup::SETS],
-    entries: &[u8; setup::ENTRIES],
-    steps: &[u8],
-    e: u8,
-    env: Env,
-    s: u8,
-    at: usize,
-    fault: &mut usize,
-) -> usize
-    requires { Walking sets.now entries.now e (env_of env) s × (field_at entries.now 1 e < e) }
-    ensures { EachRead sets.now entries.now steps.now e (env_of env) at fault.old s fault.new result }
-{
-    let mut left = setup::set(sets, s as usize);
-    let mut here = at;
-    while !sets::is_empty(left) {
-        let t = sets::lowest(left) as u8;
-        here = operand(sets, entries, steps, e, env, setup::A, t, here, fault);
-        left = sets::rest(left);
-    }
-    here
-}
-
-// AF, EG, AR or EU, at a stage of its walk: the code byte, 23, the chosen byte, 24, and then the premises, in order. Where the walk goes on, the stage is
-// added to it.
-#[cycle(at_each_formula_on_each_operand_step_walk)]
+// One step at a stage of the walk: the code byte, 23, the chosen byte, 24, and then the premises, in order. The rules that go on at each successor come to
+// the loop at the end, where the walk has its stage added; the others are done before it.
+#[cycle(at_each_formula_go_on_walk)]
 fn walk(
     sets: &[u64; setup::SETS],
     entries: &[u8; setup::ENTRIES],
@@ -245,57 +153,138 @@ fn walk(
     at: usize,
     fault: &mut usize,
 ) -> usize
-    requires { Walking sets.now entries.now e (env_of env) s × (8 ≤ field_at entries.now 0 e) }
-    ensures { WalkRead sets.now entries.now steps.now e (env_of env) at fault.old (number met) s fault.new result }
+    requires { Walking sets.now entries.now e (env_of env) s }
+    ensures { WalkRead sets.now entries.now steps.now e (env_of env) (number met) s at fault.new result }
 {
+    let k = index(s);
     match rules::read_head(steps, at, setup::field(entries, setup::KIND, e)) {
         Head::Step(rule, begun) => {
-            let k = index(s);
-            let then = premises::along_of(rule);
-            if !premises::allowed(then, sets::has(met, k)) {
-                return fails(steps, at, fault);
-            }
-            match then {
-                Along::Nothing => begun,
-                Along::A => operand(sets, entries, steps, e, env, setup::A, s, begun, fault),
-                Along::B => operand(sets, entries, steps, e, env, setup::B, s, begun, fault),
-                Along::Both => {
-                    let here = operand(sets, entries, steps, e, env, setup::A, s, begun, fault);
-                    operand(sets, entries, steps, e, env, setup::B, s, here, fault)
+            let from = match rule {
+                Rule::True => return begun,
+                Rule::Holds => return begun,
+                Rule::HoldsNot => return begun,
+                Rule::And => {
+                    let a = setup::field(entries, setup::A, e);
+                    let here = formula(sets, entries, steps, a, env, begun, fault);
+                    if steps.len() < here {
+                        return here;
+                    }
+                    let b = setup::field(entries, setup::B, e);
+                    return formula(sets, entries, steps, b, env, here, fault);
                 }
-                Along::AThenOn => {
-                    let c = rules::chosen(rule);
+                Rule::OrLeft => {
+                    let a = setup::field(entries, setup::A, e);
+                    return formula(sets, entries, steps, a, env, begun, fault);
+                }
+                Rule::OrRight => {
+                    let b = setup::field(entries, setup::B, e);
+                    return formula(sets, entries, steps, b, env, begun, fault);
+                }
+                Rule::Ax => return at_each(sets, entries, steps, e, env, s, begun, fault),
+                Rule::Ex(c) => {
                     if !leads(sets, k, c) {
                         return fails(steps, at, fault);
                     }
-                    let here = operand(sets, entries, steps, e, env, setup::A, s, begun, fault);
-                    walk(
-                        sets,
-                        entries,
-                        steps,
-                        e,
-                        env,
-                        sets::with(met, k),
-                        c,
-                        here,
-                        fault,
-                    )
+                    let a = setup::field(entries, setup::A, e);
+                    let bound = x_at(entries, e, env, c);
+                    return formula(sets, entries, steps, a, bound, begun, fault);
                 }
-                Along::EachOn => on_each(sets, entries, steps, e, env, met, s, begun, fault),
-                Along::BThenEach => {
-                    let here = operand(sets, entries, steps, e, env, setup::B, s, begun, fault);
-                    on_each(sets, entries, steps, e, env, met, s, here, fault)
+                Rule::AfNow => {
+                    if sets::has(met, k) {
+                        return fails(steps, at, fault);
+                    }
+                    let a = setup::field(entries, setup::A, e);
+                    let bound = x_at(entries, e, env, s);
+                    return formula(sets, entries, steps, a, bound, begun, fault);
                 }
+                Rule::AfLater => {
+                    if sets::has(met, k) {
+                        return fails(steps, at, fault);
+                    }
+                    begun
+                }
+                Rule::EgOn(c) => {
+                    if sets::has(met, k) {
+                        return fails(steps, at, fault);
+                    }
+                    if !leads(sets, k, c) {
+                        return fails(steps, at, fault);
+                    }
+                    return go_on(sets, entries, steps, e, env, met, s, c, begun, fault);
+                }
+                Rule::EgMerge => {
+                    if !sets::has(met, k) {
+                        return fails(steps, at, fault);
+                    }
+                    return begun;
+                }
+                Rule::ArRelease => {
+                    if sets::has(met, k) {
+                        return fails(steps, at, fault);
+                    }
+                    let a = setup::field(entries, setup::A, e);
+                    let bound = x_at(entries, e, env, s);
+                    let here = formula(sets, entries, steps, a, bound, begun, fault);
+                    if steps.len() < here {
+                        return here;
+                    }
+                    let b = setup::field(entries, setup::B, e);
+                    let bound = y_at(entries, e, env, s);
+                    return formula(sets, entries, steps, b, bound, here, fault);
+                }
+                Rule::ArOn => {
+                    if sets::has(met, k) {
+                        return fails(steps, at, fault);
+                    }
+                    let b = setup::field(entries, setup::B, e);
+                    let bound = y_at(entries, e, env, s);
+                    formula(sets, entries, steps, b, bound, begun, fault)
+                }
+                Rule::ArMerge => {
+                    if !sets::has(met, k) {
+                        return fails(steps, at, fault);
+                    }
+                    return begun;
+                }
+                Rule::EuNow => {
+                    if sets::has(met, k) {
+                        return fails(steps, at, fault);
+                    }
+                    let b = setup::field(entries, setup::B, e);
+                    let bound = y_at(entries, e, env, s);
+                    return formula(sets, entries, steps, b, bound, begun, fault);
+                }
+                Rule::EuLater(c) => {
+                    if sets::has(met, k) {
+                        return fails(steps, at, fault);
+                    }
+                    if !leads(sets, k, c) {
+                        return fails(steps, at, fault);
+                    }
+                    return go_on(sets, entries, steps, e, env, met, s, c, begun, fault);
+                }
+            };
+            let mut left = setup::set(sets, k);
+            let mut here = from;
+            while !sets::is_empty(left) {
+                if steps.len() < here {
+                    return here;
+                }
+                let t = sets::lowest(left) as u8;
+                let grown = sets::with(met, k);
+                here = walk(sets, entries, steps, e, env, grown, t, here, fault);
+                left = sets::rest(left);
             }
+            here
         }
-        Head::Missing => missing(steps, at),
+        Head::Missing => steps.len() + 1,
         Head::Wrong => wrong(steps, at, fault),
     }
 }
 
-// The walk, with s added, at each successor of s, ascending.
-#[cycle(at_each_formula_on_each_operand_step_walk)]
-fn on_each(
+// The entry's a at s, and then the walk, with s added, at its successor c.
+#[cycle(at_each_formula_go_on_walk)]
+fn go_on(
     sets: &[u64; setup::SETS],
     entries: &[u8; setup::ENTRIES],
     steps: &[u8],
@@ -303,18 +292,57 @@ fn on_each(
     env: Env,
     met: Set,
     s: u8,
+    c: u8,
     at: usize,
     fault: &mut usize,
 ) -> usize
-    requires { Going sets.now entries.now e (env_of env) (number met) s }
-    ensures { OnEachRead sets.now entries.now steps.now e (env_of env) at fault.old (number met) s fault.new result }
+    requires { Led sets.now entries.now e (env_of env) (number met) s c }
+    ensures { OnRead sets.now entries.now steps.now e (env_of env) (number met) s c at fault.new result }
 {
-    let grown = sets::with(met, index(s));
-    let mut left = setup::set(sets, index(s));
+    let a = setup::field(entries, setup::A, e);
+    let bound = x_at(entries, e, env, s);
+    let here = formula(sets, entries, steps, a, bound, at, fault);
+    if steps.len() < here {
+        return here;
+    }
+    walk(
+        sets,
+        entries,
+        steps,
+        e,
+        env,
+        sets::with(met, s as usize),
+        c,
+        here,
+        fault,
+    )
+}
+
+// The entry's a at each successor of s, ascending.
+#[cycle(at_each_formula_go_on_walk)]
+fn at_each(
+    sets: &[u64; setup::SETS],
+    entries: &[u8; setup::ENTRIES],
+    steps: &[u8],
+    e: u8,
+    env: Env,
+    s: u8,
+    at: usize,
+    fault: &mut usize,
+) -> usize
+    requires { Walking sets.now entries.now e (env_of env) s × ((field_at entries.now 1 e < e) × (at ≤ length steps.now)) }
+    ensures { EachRead sets.now entries.now steps.now e (env_of env) s at fault.new result }
+{
+    let mut left = setup::set(sets, s as usize);
     let mut here = at;
     while !sets::is_empty(left) {
+        if steps.len() < here {
+            return here;
+        }
         let t = sets::lowest(left) as u8;
-        here = walk(sets, entries, steps, e, env, grown, t, here, fault);
+        let a = setup::field(entries, setup::A, e);
+        let bound = x_at(entries, e, env, t);
+        here = formula(sets, entries, steps, a, bound, here, fault);
         left = sets::rest(left);
     }
     here
