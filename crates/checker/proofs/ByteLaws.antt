@@ -66,7 +66,7 @@ module _ {G : Graph} (R : Readable G) (small : G.stages ≤ 256) where
     kind-bytes Kind.Or w s (inr u) = (lit< tt, of-b s u)
     kind-bytes Kind.AX w s d = (lit< tt, ascending-bytes G.stages (G.next s) (λ t n. a t (d t n)) (λ t n. of-a t (d t n)))
     kind-bytes Kind.EX w s d = (lit< tt, (choice s d.0 d.1, of-a d.0 d.2))
-    kind-bytes Kind.AF w s d = each-bytes _ _ (λ v u k. (lit< tt, of-a u k.1)) (λ u h. tt) Rule.AfLater (lit< tt, tt) d
+    kind-bytes Kind.AF w s d = each-bytes _ (λ u h. []) (λ v u k. (lit< tt, of-a u k.1)) (λ u h. tt) Rule.AfLater (lit< tt, tt) d
     kind-bytes Kind.EG w s d = one-bytes _ _ (λ v u k. (lit< tt, tt)) of-a Rule.EgOn (λ c h. (lit< tt, (h, tt))) d
     kind-bytes Kind.AR w s d = each-bytes _ _ stops of-b Rule.ArOn (lit< tt, tt) d
       where

@@ -213,15 +213,19 @@ late (c ∷ cs) = not (ltb (number c.refusal) 22) && late cs
 
 first-half : (a b : Bool) → T (a && b) → T a
 first-half true b t = tt
+first-half false b t = elim t [ ]
 
 second-half : (a b : Bool) → T (a && b) → T b
 second-half true b t = t
+second-half false b t = elim t [ ]
 
 is_true : (b : Bool) → T b → b ≡ true
 is_true true t = refl
+is_true false t = elim t [ ]
 
 is_false : (b : Bool) → T (not b) → b ≡ false
 is_false false t = refl
+is_false true t = elim t [ ]
 
 early-number : (cs : List Condition) (k : Refusal) → T (early cs) → Given cs k → ltb (number k) 22 ≡ true
 early-number [] k t g = absurd g

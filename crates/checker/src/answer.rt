@@ -5,14 +5,14 @@ ghost use Rattle.checker.specs.Check.{coded};
 use format::Refusal;
 
 // Accepted: the certificate proves this side.
-#[derive(Drop)]
+#[derive(Clone, Copy)]
 pub enum Answer {
     Accepted(u8),
     Refused(Refusal),
 }
 
 // The same with the place of the fault.
-#[derive(Drop)]
+#[derive(Clone, Copy)]
 pub(crate) enum Checked {
     Side(u8),
     Refused(Refusal, usize),

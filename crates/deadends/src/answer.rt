@@ -6,7 +6,7 @@ use format::Refusal;
 use sets::Set;
 
 // The dead ends and how many they are.
-#[derive(Drop)]
+#[derive(Clone, Copy)]
 pub enum Report {
     DeadEnds(Set, u8),
     Refused(Refusal),

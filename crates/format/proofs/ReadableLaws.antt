@@ -45,12 +45,15 @@ entries image table clear = stable (entries-fit? table) clear.1.0
 -- Both halves of a test.
 both_left : (a b : Bool) → T (a && b) → T a
 both_left true b t = tt
+both_left false b t = elim t [ ]
 
 both_right : (a b : Bool) → T (a && b) → T b
 both_right true b t = t
+both_right false b t = elim t [ ]
 
 both : (a b : Bool) → T a → T b → T (a && b)
 both true b p q = q
+both false b p q = elim p [ ]
 
 -- The graph of an image that is not refused is readable: an edge joins two stages, and every stage has a successor.
 pub readable : (image : List ℕ) → Clear (image_conditions image) → Readable (graph_of image)

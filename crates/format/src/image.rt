@@ -10,14 +10,14 @@ use crate::{Refusal, begins, byte};
 use sets::Set;
 
 // What the bytes of a readable image say of its layout: n, p, and how many sets there are.
-#[derive(Drop)]
+#[derive(Clone, Copy)]
 pub struct Shape {
     pub stages: usize,
     pub predicates: usize,
     pub sets: usize,
 }
 
-#[derive(Drop)]
+#[derive(Clone, Copy)]
 pub enum Answer {
     Image(Shape),
     Refused(Refusal),

@@ -1,4 +1,5 @@
 // The stored forms: reading a stage image, a formula table, and a goal with its start, to their shape or to one of the refusals 1 to 13.
+#![tactic(auto)]
 pub mod image;
 mod nesting;
 mod operands;
@@ -13,7 +14,7 @@ ghost use Rattle.format.specs.Bytes.{Begins};
 ghost use Rattle.format.specs.Refusal.{number};
 
 // The refusals, in the order of their numbers.
-#[derive(Drop)]
+#[derive(Clone, Copy)]
 pub enum Refusal {
     ImageStart,
     ImageSizes,

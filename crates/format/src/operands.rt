@@ -7,7 +7,7 @@ use crate::record::{Record, Sort};
 use crate::{byte, record};
 
 // Which entries were met as operands, a flag for each, and whether one was met twice.
-#[derive(Drop)]
+#[derive(Clone, Copy)]
 pub struct Flags {
     pub(crate) seen: [u8; 64],
     pub(crate) twice: bool,

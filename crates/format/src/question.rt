@@ -7,14 +7,14 @@ ghost use Rattle.format.specs.Answers.{TableRead, QuestionAnswer};
 use crate::{Refusal, table, variables};
 
 // A question that is allowed: the shape of its setup, the goal's entry and the start's stage.
-#[derive(Drop)]
+#[derive(Clone, Copy)]
 pub struct Question {
     pub shape: table::Shape,
     pub goal: u8,
     pub start: u8,
 }
 
-#[derive(Drop)]
+#[derive(Clone, Copy)]
 pub enum Answer {
     Asked(Question),
     Refused(Refusal),

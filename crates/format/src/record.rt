@@ -7,7 +7,7 @@ ghost use Rattle.format.specs.Table.{IsTerm, SecondTerm, ConstantRule, AtomRule,
 use crate::byte;
 
 // The kinds of formulas, in the order of their numbers.
-#[derive(Drop)]
+#[derive(Clone, Copy)]
 pub enum Kind {
     True,
     False,
@@ -25,7 +25,7 @@ pub enum Kind {
 }
 
 // The rows of the table of kinds: the kinds of a row use the same fields.
-#[derive(Drop)]
+#[derive(Clone, Copy)]
 pub enum Sort {
     Constant,
     Atom,
@@ -36,7 +36,7 @@ pub enum Sort {
 }
 
 // The record of an entry.
-#[derive(Drop)]
+#[derive(Clone, Copy)]
 pub struct Record {
     pub kind: u8,
     pub a: u8,

@@ -5,14 +5,14 @@ ghost use Rattle.format.specs.Answers.{ImageRead, TableAnswer};
 
 use crate::{Refusal, begins, byte, image, nesting, operands, record};
 
-#[derive(Drop)]
+#[derive(Clone, Copy)]
 pub enum Answer {
     Table(Shape),
     Refused(Refusal),
 }
 
 // What the bytes of a readable image and table say of their layout.
-#[derive(Drop)]
+#[derive(Clone, Copy)]
 pub struct Shape {
     pub image: image::Shape,
     pub entries: usize,

@@ -6,7 +6,7 @@ ghost use Rattle.format.specs.Table.{term_of};
 ghost use Rattle.hand.specs.Environment.{env_of, Bound};
 
 // The stage of each variable.
-#[derive(Drop)]
+#[derive(Clone, Copy)]
 pub struct Env {
     pub slots: [u8; 4],
 }

@@ -37,7 +37,7 @@ pub const T: usize = 5;
 
 // An entry that is prepared on a side: its record, with the kind that it has there; and of an atom's predicate the arity and the number of its first set,
 // which of other kinds are 0.
-#[derive(Drop)]
+#[derive(Clone, Copy)]
 pub struct Entry {
     pub kind: u8,
     pub a: u8,

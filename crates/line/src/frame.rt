@@ -4,13 +4,13 @@ ghost use Rattle.line.specs.Framing.{Word};
 use format::{Refusal, byte};
 
 // A part that lies in the input from a place on.
-#[derive(Drop)]
+#[derive(Clone, Copy)]
 pub struct Span {
     pub from: usize,
     pub size: usize,
 }
 
-#[derive(Drop)]
+#[derive(Clone, Copy)]
 pub struct Parts {
     pub image: Span,
     pub table: Span,
@@ -18,7 +18,7 @@ pub struct Parts {
     pub start: u8,
 }
 
-#[derive(Drop)]
+#[derive(Clone, Copy)]
 pub enum Frame {
     Parts(Parts),
     Refused(Refusal),

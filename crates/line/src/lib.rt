@@ -1,4 +1,5 @@
 // What stands below and beside the writing of certificates in the program zseq: its input taken apart, and the line that it prints.
+#![tactic(auto)]
 pub mod frame;
 mod text;
 

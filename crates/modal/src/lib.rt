@@ -8,6 +8,7 @@
 //     rounds grow     EU               AF
 //
 // Every function is total. A result has no stage at or above n, and it is right for any graph whose successors the row holds (`Computes`).
+#![tactic(auto)]
 ghost use Rattle.std.specs.Prelude.{◌≡◌};
 ghost use Rattle.model.specs.Decides.{Decides};
 ghost use Rattle.sets.specs.Number.{number};
@@ -18,14 +19,14 @@ ghost use Rattle.modal.specs.Modal.{ex_of, ex_among, ax_of, eg_of, af_of, ar_of,
 use sets::Set;
 
 // Which of its successors a stage asks to be in a set: some, or each.
-#[derive(Drop)]
+#[derive(Clone, Copy)]
 enum Which {
     Some,
     Each,
 }
 
 // What a round does to a set: it takes stages away, or it adds some.
-#[derive(Drop)]
+#[derive(Clone, Copy)]
 enum Way {
     Shrink,
     Grow,

@@ -1,12 +1,13 @@
 // The seventeen rules of document 01, and the reading of one step's head: its code byte, and the chosen byte of the three rules that have
 // one. specs/ says what the steps of a whole proof are and how they are read; a checker goes by `read_head`, by cases on `Rule`, and answers
 // how far it came.
+#![tactic(auto)]
 ghost use Rattle.std.specs.Prelude.{◌≡◌};
 ghost use Rattle.rules.specs.Table.{rule_of, kind_for, takes, chosen_of};
 ghost use Rattle.rules.specs.Head.{head_of};
 
 // The rules, in the order of their codes. Three carry the chosen stage.
-#[derive(Drop)]
+#[derive(Clone, Copy)]
 pub enum Rule {
     True,
     Holds,
@@ -28,7 +29,7 @@ pub enum Rule {
 }
 
 // What stands at a place where a step is to begin.
-#[derive(Drop)]
+#[derive(Clone, Copy)]
 pub enum Head {
     // A rule for the formula in hand, and the place after its code and its chosen byte.
     Step(Rule, usize),
@@ -39,7 +40,7 @@ pub enum Head {
 }
 
 // How far the reading of steps came.
-#[derive(Drop)]
+#[derive(Clone, Copy)]
 pub enum Progress {
     // Everything asked for is proved, by the steps up to this place.
     At(usize),

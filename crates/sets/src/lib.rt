@@ -3,6 +3,7 @@
 //
 // The contracts speak of the set's number (`number`), by the library's operations on numbers; `specs/Member.antt` says what membership
 // is, and `proofs/` has the laws of sets, over any width.
+#![tactic(auto)]
 pub mod row;
 pub mod stored;
 
@@ -18,7 +19,7 @@ pub const WIDTH: usize = 64;
 
 pub const BYTES: usize = 8;
 
-#[derive(Drop)]
+#[derive(Clone, Copy)]
 pub struct Set {
     bits: u64,
 }

@@ -5,7 +5,7 @@ ghost use Rattle.verdict.specs.Verdict.{coded};
 use format::Refusal;
 
 // Yes: the goal holds at the start. No: its dual does.
-#[derive(Drop)]
+#[derive(Clone, Copy)]
 pub enum Verdict {
     Yes,
     No,

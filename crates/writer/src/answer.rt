@@ -5,7 +5,7 @@ ghost use Rattle.writer.specs.Write.{coded, length_after};
 use format::Refusal;
 
 // Written: which side the certificate proves, and how many bytes of the buffer it takes.
-#[derive(Drop)]
+#[derive(Clone, Copy)]
 pub enum Answer {
     Written { side: u8, length: usize },
     Refused(Refusal),

@@ -3,6 +3,7 @@
 // The certificate is gone through twice: once to count its bytes, which stops as soon as they are more than the buffer holds, and then to write them. So
 // no byte of the buffer is changed before it is known that all have room, and a certificate of any length is refused at once where there is none. The crate
 // `pen` goes through it.
+#![tactic(auto)]
 pub mod answer;
 
 ghost use Rattle.std.specs.Prelude.{◌≡◌};

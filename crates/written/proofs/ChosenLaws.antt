@@ -8,7 +8,7 @@ use Prim.Native.Nat.{ℕ, zero, suc}
 use mathlib.Core.Path.{◌≡◌, refl, sym, ap, ap₂, ◌∙◌, subst}
 use mathlib.Core.Bool.{Bool, true, false, not}
 use mathlib.Core.Logic.{◌⊎◌, inl, inr, ⊎_elim}
-use mathlib.Core.List.{List, ◌++◌}
+use mathlib.Core.List.{List, [], ◌++◌}
 use lib.Dec.{T, eqb}
 use Rattle.model.specs.Graph.{Graph}
 use Rattle.model.specs.Formula.{Formula, truth, falsity, is, is_not, and, or, AX, EX, AF, EG, AR, EU, Env, bind, value}
@@ -163,7 +163,7 @@ module _ (G : Graph) (p : Bool) (A B : ℕ → Type 0) {D F : ℕ → Type 0} (a
       ap (λ (l : List ℕ). begin Rule.Ax ++ l) (ascending-same G.stages (G.next s) _ _ (λ t n. a-same t (d t n) (d' t n) (u.1 t n) (v.1 t n)))
   ours-by-once Kind.EX w s d d' u v = ex-once w s d d' u v
   ours-by-once Kind.AF w s d d' u v =
-      each-once G _ Rule.AfLater _ _ _
+      each-once G _ Rule.AfLater (λ t n. []) _ _
       (λ w s k k' m n. ap (λ (l : List ℕ). begin Rule.AfNow ++ l) (a-same s k.1 k'.1 m.1 n.1))
       (λ w s k h m n. never (chosen-once G Kind.AF A B w s) Rule.AfNow Rule.AfLater tt m.0 n) (λ w s h h' m n. refl) d d' u v
   ours-by-once Kind.EG w s d d' u v =
