@@ -1,0 +1,14 @@
+-- `sets::rest` meets its contract: of the number 0 nothing is taken.
+use mathlib.Core.Path.{refl, sym, ap, ◌∙◌}
+use Prim.Native.Nat.{ℕ, ◌-◌}
+use lib.Bits.{bit_and}
+use Rattle.sets.specs.Number.{number}
+use Rattle.sets.proofs.rest.Goals as goal
+
+pub returns-then-s-eq0 : goal.returns-then-s-eq0
+unfolding number
+returns-then-s-eq0 c = c.if-s-eq0.true ∙ sym (ap (λ (x : ℕ). bit_and x (x - 1)) c.if-s-eq0.true)
+
+pub returns-else-s-eq0 : goal.returns-else-s-eq0
+unfolding number
+returns-else-s-eq0 c = refl
