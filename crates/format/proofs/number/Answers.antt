@@ -1,0 +1,71 @@
+-- `format::number` meets its contract: in each arm the refusal is that arm's variant, at which document 01's `number` computes.
+-- Assumes nothing.
+use mathlib.Core.Path.{sym, ap}
+use Rattle.format.specs.Refusal.{number}
+use Rattle.format.proofs.number.Goals as goal
+
+pub returns-in-ImageStart : goal.returns-in-ImageStart
+returns-in-ImageStart c = sym (ap number c.enum_told-1.is)
+
+pub returns-in-ImageSizes : goal.returns-in-ImageSizes
+returns-in-ImageSizes c = sym (ap number c.enum_told-in-ImageSizes-1.is)
+
+pub returns-in-ImageLength : goal.returns-in-ImageLength
+returns-in-ImageLength c = sym (ap number c.enum_told-in-ImageLength-1.is)
+
+pub returns-in-BitTooHigh : goal.returns-in-BitTooHigh
+returns-in-BitTooHigh c = sym (ap number c.enum_told-in-BitTooHigh-1.is)
+
+pub returns-in-NoSuccessor : goal.returns-in-NoSuccessor
+returns-in-NoSuccessor c = sym (ap number c.enum_told-in-NoSuccessor-1.is)
+
+pub returns-in-TableStart : goal.returns-in-TableStart
+returns-in-TableStart c = sym (ap number c.enum_told-in-TableStart-1.is)
+
+pub returns-in-TableLength : goal.returns-in-TableLength
+returns-in-TableLength c = sym (ap number c.enum_told-in-TableLength-1.is)
+
+pub returns-in-BadRecord : goal.returns-in-BadRecord
+returns-in-BadRecord c = sym (ap number c.enum_told-in-BadRecord-1.is)
+
+pub returns-in-OperandTwice : goal.returns-in-OperandTwice
+returns-in-OperandTwice c = sym (ap number c.enum_told-in-OperandTwice-1.is)
+
+pub returns-in-NestedTooDeep : goal.returns-in-NestedTooDeep
+returns-in-NestedTooDeep c = sym (ap number c.enum_told-in-NestedTooDeep-1.is)
+
+pub returns-in-NoSuchGoal : goal.returns-in-NoSuchGoal
+returns-in-NoSuchGoal c = sym (ap number c.enum_told-in-NoSuchGoal-1.is)
+
+pub returns-in-NoSuchStart : goal.returns-in-NoSuchStart
+returns-in-NoSuchStart c = sym (ap number c.enum_told-in-NoSuchStart-1.is)
+
+pub returns-in-FreeVariable : goal.returns-in-FreeVariable
+returns-in-FreeVariable c = sym (ap number c.enum_told-in-FreeVariable-1.is)
+
+pub returns-in-BufferTooShort : goal.returns-in-BufferTooShort
+returns-in-BufferTooShort c = sym (ap number c.enum_told-in-BufferTooShort-1.is)
+
+pub returns-in-NothingFires : goal.returns-in-NothingFires
+returns-in-NothingFires c = sym (ap number c.enum_told-in-NothingFires-1.is)
+
+pub returns-in-NotOfShape : goal.returns-in-NotOfShape
+returns-in-NotOfShape c = sym (ap number c.enum_told-in-NotOfShape-1.is)
+
+pub returns-in-CertificateStart : goal.returns-in-CertificateStart
+returns-in-CertificateStart c = sym (ap number c.enum_told-in-CertificateStart-1.is)
+
+pub returns-in-OtherQuestion : goal.returns-in-OtherQuestion
+returns-in-OtherQuestion c = sym (ap number c.enum_told-in-OtherQuestion-1.is)
+
+pub returns-in-ByteMissing : goal.returns-in-ByteMissing
+returns-in-ByteMissing c = sym (ap number c.enum_told-in-ByteMissing-1.is)
+
+pub returns-in-WrongCode : goal.returns-in-WrongCode
+returns-in-WrongCode c = sym (ap number c.enum_told-in-WrongCode-1.is)
+
+pub returns-in-ConditionFails : goal.returns-in-ConditionFails
+returns-in-ConditionFails c = sym (ap number c.enum_told-in-ConditionFails-1.is)
+
+pub returns-in-BytesRemain : goal.returns-in-BytesRemain
+returns-in-BytesRemain c = sym (ap number c.enum_told-in-BytesRemain-1.is)

@@ -1,0 +1,31 @@
+-- `format::question::other_free` meets its contract: the loop has found none of the variables 1 to v - 1 free.
+-- Assumes nothing.
+use native.Mathlib.Omega.{arith}
+use borrow.Author.Count.{below_more}
+use Rattle.model.specs.Decides.{decided, refuted}
+use borrow.Author.Rules.{rules}
+use Rattle.format.proofs.question.other_free.Goals as goal
+
+pub loop-v-init : goal.loop-v-init
+loop-v-init c = (search rules, search rules, λ k h g. absurd (omega arith))
+
+pub returns-then-has : goal.returns-then-has
+returns-then-has c =
+    let turn = c.loop-v in
+    let free' = c.free-free in
+    let has = c.has in
+    let is_free = (free'.ensures turn.v (omega arith)).0 (decided _ has.ensures c.if-has.true) in
+    record { variable = turn.v; from = turn.invariant.0; to = omega arith; free = is_free }
+
+pub loop-v-preserved : goal.loop-v-preserved
+loop-v-preserved c =
+    let turn = c.loop-v in
+    let has = c.has in
+    let free = c.free-free in (
+      omega arith,
+      omega arith,
+      below_more _ _ turn.invariant.2 (λ from f. refuted _ has.ensures c.if-has.false ((free.ensures turn.v (omega arith)).1 f)),
+    )
+
+pub returns : goal.returns
+returns c = λ o. c.loop-v.invariant.2 o.variable (omega (arith, o.to)) o.from o.free
