@@ -14,24 +14,17 @@ returns-then-image-q c = λ fits. omega (arith, (fits c.loop-q.q (omega (arith, 
 
 pub returns-then-arity-lt1 : goal.returns-then-arity-lt1
 returns-then-arity-lt1 c =
-    let turn = c.loop-q in
-    let byte = c.byte-p in
-    let byte2 = c.byte-arity in
-    λ fits. omega (arith, arity-from _ _ (fits turn.q (omega (arith, byte.ensures))), byte2.ensures)
+    λ fits. omega (arith, arity-from _ _ (fits c.loop-q.q (omega (arith, c.byte-p.ensures))), c.byte-arity.ensures)
 
 pub returns-then-arity-gt2 : goal.returns-then-arity-gt2
 returns-then-arity-gt2 c =
-    let turn = c.loop-q in
-    let byte = c.byte-p in
-    let byte2 = c.byte-arity in
-    λ fits. omega (arith, arity-to _ _ (fits turn.q (omega (arith, byte.ensures))), byte2.ensures)
+    λ fits. omega (arith, arity-to _ _ (fits c.loop-q.q (omega (arith, c.byte-p.ensures))), c.byte-arity.ensures)
 
 pub loop-q-preserved : goal.loop-q-preserved
 loop-q-preserved c =
-    let turn = c.loop-q in
     let byte2 = c.byte-arity in (
       omega arith,
-      below_more _ _ turn.invariant.1 (record { there = omega arith; arity = one-or-two _ (omega (arith, byte2.ensures)) (omega (arith, byte2.ensures)) }),
+      below_more _ _ c.loop-q.invariant.1 (record { there = omega arith; arity = one-or-two _ (omega (arith, byte2.ensures)) (omega (arith, byte2.ensures)) }),
     )
 
 pub returns : goal.returns

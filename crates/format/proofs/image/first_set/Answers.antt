@@ -8,22 +8,18 @@ use borrow.Author.Rules.{rules}
 use Rattle.format.proofs.image.first_set.Goals as goal
 
 pub loop-i-init : goal.loop-i-init
-loop-i-init c = (search rules, first-none _ c.byte-n.ensures, omega (arith, c.byte-n.type-inv))
+loop-i-init c = (search rules, first-none _ c.byte-n.ensures, omega (arith, c.byte-n.type_inv))
 
 pub overflow_add-first : goal.overflow_add-first
 overflow_add-first c =
-    let byte = c.byte-n in
-    let byte2 = c.byte in
-    omega (arith, sets-for-le byte.result byte2.result (omega (arith, byte.type-inv)), c.sets_for-first.ensures)
+    omega (arith, sets-for-le c.byte-n.result c.byte.result (omega (arith, c.byte-n.type_inv)), c.sets_for-first.ensures)
 
 pub loop-i-preserved : goal.loop-i-preserved
 loop-i-preserved c =
-    let byte = c.byte-n in
-    let turn = c.loop-i in
     let byte2 = c.byte in (
       omega arith,
-      first_more _ _ byte.ensures turn.invariant.1 (cc),
-      omega (arith, sets-for-le byte.result byte2.result (omega (arith, byte.type-inv)), c.sets_for-first.ensures),
+      first_more _ _ c.byte-n.ensures c.loop-i.invariant.1 (cc),
+      omega (arith, sets-for-le c.byte-n.result byte2.result (omega (arith, c.byte-n.type_inv)), c.sets_for-first.ensures),
     )
 
 pub returns : goal.returns

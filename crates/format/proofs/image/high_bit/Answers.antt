@@ -2,7 +2,7 @@
 -- Assumes nothing.
 use native.Mathlib.Omega.{arith}
 use borrow.Author.Count.{below_more}
-use Rattle.model.specs.Decides.{granted, denied}
+use Rattle.model.specs.Decides.{decided, refuted}
 use Rattle.format.proofs.ImageLaws.{has_all, count-is, some-high, none-high}
 use Rattle.format.proofs.image.high_bit.Goals as goal
 
@@ -11,41 +11,22 @@ loop-i-init c = c.requires.1.low
 
 pub returns-then-not-subset : goal.returns-then-not-subset
 returns-then-not-subset c =
-    let args = c.args in
-    let turn = c.loop-i in
-    let first-set = c.first_set-count in
-    let byte2 = c.byte-2 in
-    let set' = c.set in
-    let byte = c.byte in
-    let pre = c.requires in
-    let below = c.below-all in
-    let subset = c.subset in
-    let image = args.image.now in
+    let image = c.args.image.now in
     record {
-      set = turn.i;
-      one_of = omega (arith, count-is image _ _ first-set.ensures.is byte2.ensures);
+      set = c.loop-i.i;
+      one_of = omega (arith, count-is image _ _ c.first_set-count.ensures.is c.byte-2.ensures);
       at =
-          some-high image _ _ _ set'.ensures (has_all image _ _ byte.ensures pre.0.stages below.ensures)
-          (denied subset.result _ subset.ensures c.if-not-subset.true);
+          some-high image _ _ _ c.set.ensures (has_all image _ _ c.byte.ensures c.requires.0.stages c.below-all.ensures)
+          (refuted _ c.subset.ensures c.if-not-subset.true);
     }
 
 pub loop-i-preserved : goal.loop-i-preserved
 loop-i-preserved c =
-    let args = c.args in
-    let turn = c.loop-i in
-    let set = c.set in
-    let byte = c.byte in
-    let pre = c.requires in
-    let below = c.below-all in
-    let subset = c.subset in
-    let image = args.image.now in
-    below_more _ _ turn.invariant
-    (none-high image _ _ _ set.ensures (has_all image _ _ byte.ensures pre.0.stages below.ensures)
-    (granted subset.result _ subset.ensures c.if-not-subset.false))
+    let image = c.args.image.now in
+    below_more _ _ c.loop-i.invariant
+    (none-high image _ _ _ c.set.ensures (has_all image _ _ c.byte.ensures c.requires.0.stages c.below-all.ensures)
+    (decided _ c.subset.ensures c.if-not-subset.false))
 
 pub returns : goal.returns
 returns c =
-    let turn = c.loop-i in
-    let first-set = c.first_set-count in
-    let byte2 = c.byte-2 in
-    λ h. turn.invariant h.set (omega (arith, count-is _ _ _ first-set.ensures.is byte2.ensures, h.one_of)) h.at
+    λ h. c.loop-i.invariant h.set (omega (arith, count-is _ _ _ c.first_set-count.ensures.is c.byte-2.ensures, h.one_of)) h.at

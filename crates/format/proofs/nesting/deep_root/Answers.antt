@@ -5,14 +5,8 @@ use Rattle.format.proofs.nesting.deep_root.Goals as goal
 
 pub returns-then-nested-gt4 : goal.returns-then-nested-gt4
 returns-then-nested-gt4 c =
-    let args = c.args in
-    let byte = c.byte-flag in
-    let if1 = c.if-flag-eq1 in
-    let nested = c.nested in
-    record { root = λ flag. if1.false (omega (arith, byte.ensures)); deep = omega (arith, nested.ensures.is args.image.now) }
+    record { root = λ flag. c.if-flag-eq1.false (omega (arith, c.byte-flag.ensures)); deep = omega (arith, c.nested.ensures.is c.args.image.now) }
 
 pub returns : goal.returns
 returns c =
-    let args = c.args in
-    let nested = c.nested in
-    λ root. omega (arith, nested.ensures.is args.image.now, root.deep)
+    λ root. omega (arith, c.nested.ensures.is c.args.image.now, root.deep)

@@ -12,18 +12,11 @@ loop-e-init c = (search rules, below_none _)
 
 pub returns-then-deep_root : goal.returns-then-deep_root
 returns-then-deep_root c =
-    let turn = c.loop-e in
-    let byte = c.byte-m in
-    let deep-root = c.deep_root in
-    record { entry = turn.e; below = omega (arith, byte.ensures); deep = (decided _ deep-root.ensures c.if-deep_root.true).deep }
+    record { entry = c.loop-e.e; below = omega (arith, c.byte-m.ensures); deep = (decided _ c.deep_root.ensures c.if-deep_root.true).deep }
 
 pub loop-e-preserved : goal.loop-e-preserved
 loop-e-preserved c = (omega arith, below_more _ _ c.loop-e.invariant.1 (refuted _ c.deep_root.ensures c.if-deep_root.false))
 
 pub returns : goal.returns
 returns c =
-    let args = c.args in
-    let pre = c.requires in
-    let turn = c.loop-e in
-    let byte = c.byte-m in
-    none_deep args.image.now args.table.now args.seen.now (pre) (λ k h. turn.invariant.1 k (omega (arith, byte.ensures)))
+    none_deep c.args.image.now c.args.table.now c.args.seen.now (c.requires) (λ k h. c.loop-e.invariant.1 k (omega (arith, c.byte-m.ensures)))

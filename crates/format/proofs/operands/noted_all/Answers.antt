@@ -15,10 +15,7 @@ loop-e-init c = (search rules, flagged-none)
 
 pub noted_operands-f-requires : goal.noted_operands-f-requires
 noted_operands-f-requires c =
-    let pre = c.requires in
-    let turn = c.loop-e in
-    let byte = c.byte-m in
-    subst⁻¹ (λ (r : Record). OperandsSmall (operands_in r)) c.entry.ensures (pre turn.e (omega (arith, byte.ensures)))
+    subst⁻¹ (λ (r : Record). OperandsSmall (operands_in r)) c.entry.ensures (c.requires c.loop-e.e (omega (arith, c.byte-m.ensures)))
 
 pub loop-e-preserved : goal.loop-e-preserved
 loop-e-preserved c = (omega arith, noted-entry _ _ _ _ _ c.entry.ensures c.noted_operands-f.ensures c.loop-e.invariant.1)

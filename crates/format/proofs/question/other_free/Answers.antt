@@ -11,20 +11,15 @@ loop-v-init c = (search rules, search rules, λ k h g. absurd (omega arith))
 
 pub returns-then-has : goal.returns-then-has
 returns-then-has c =
-    let turn = c.loop-v in
-    let free' = c.free-free in
-    let has = c.has in
-    let is_free = (free'.ensures turn.v (omega arith)).0 (decided _ has.ensures c.if-has.true) in
-    record { variable = turn.v; from = turn.invariant.0; to = omega arith; free = is_free }
+    let is_free = (c.free-free.ensures c.loop-v.v (omega arith)).0 (decided _ c.has.ensures c.if-has.true) in
+    record { variable = c.loop-v.v; from = c.loop-v.invariant.0; to = omega arith; free = is_free }
 
 pub loop-v-preserved : goal.loop-v-preserved
 loop-v-preserved c =
-    let turn = c.loop-v in
-    let has = c.has in
     let free = c.free-free in (
       omega arith,
       omega arith,
-      below_more _ _ turn.invariant.2 (λ from f. refuted _ has.ensures c.if-has.false ((free.ensures turn.v (omega arith)).1 f)),
+      below_more _ _ c.loop-v.invariant.2 (λ from f. refuted _ c.has.ensures c.if-has.false ((free.ensures c.loop-v.v (omega arith)).1 f)),
     )
 
 pub returns : goal.returns

@@ -9,16 +9,10 @@ use Rattle.format.proofs.question.read.Goals as goal
 
 pub read_with-requires : goal.read_with-requires
 read_with-requires c =
-    let args = c.args in
-    let shape = c.shape-1 in
-    let read = c.read in
-    subst (λ (a : Answer). TableAnswer args.image.now args.table.now a) shape.given.1 read.ensures
+    subst (λ (a : Answer). TableAnswer c.args.image.now c.args.table.now a) c.in-Table.is c.read.ensures
 
 pub returns-in-Refused : goal.returns-in-Refused
 returns-in-Refused c =
-    let args = c.args in
-    let k = c.k-1 in
-    let read = c.read in
-    given-first (setup_conditions args.image.now args.table.now)
-    (goal_conditions args.image.now args.table.now args.goal args.start) _
-    (subst (λ (a : Answer). TableAnswer args.image.now args.table.now a) k.given.1 read.ensures)
+    given-first (setup_conditions c.args.image.now c.args.table.now)
+    (goal_conditions c.args.image.now c.args.table.now c.args.goal c.args.start) _
+    (subst (λ (a : Answer). TableAnswer c.args.image.now c.args.table.now a) c.in-Refused.is c.read.ensures)

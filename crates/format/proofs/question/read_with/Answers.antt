@@ -13,71 +13,56 @@ use Rattle.format.proofs.question.read_with.Goals as goal
 
 pub returns-then-shape-goal : goal.returns-then-shape-goal
 returns-then-shape-goal c =
-    let args = c.args in
-    let pre = c.requires in
-    let image = args.image.now in
-    let table = args.table.now in
-    given-later (setup_conditions image table) (goal_conditions image table args.goal args.start) R.NoSuchGoal pre.clear
-    (inl (refl, omega (arith, c.if-shape-goal.true, shape-entries image table args.shape (pre))))
+    let image = c.args.image.now in
+    let table = c.args.table.now in
+    given-later (setup_conditions image table) (goal_conditions image table c.args.goal c.args.start) R.NoSuchGoal c.requires.clear
+    (inl (refl, omega (arith, c.if-shape-goal.true, shape-entries image table c.args.shape (c.requires))))
 
 pub returns-then-inner-start : goal.returns-then-inner-start
 returns-then-inner-start c =
-    let args = c.args in
-    let pre = c.requires in
-    let if1 = c.if-shape-goal in
-    let image = args.image.now in
-    let table = args.table.now in
-    given-later (setup_conditions image table) (goal_conditions image table args.goal args.start) R.NoSuchStart pre.clear
+    let image = c.args.image.now in
+    let table = c.args.table.now in
+    given-later (setup_conditions image table) (goal_conditions image table c.args.goal c.args.start) R.NoSuchStart c.requires.clear
     (inr (
-      λ h. omega (arith, h, if1.false, shape-entries image table args.shape (pre)),
-      inl (refl, omega (arith, c.if-inner-start.true, shape-stages image table args.shape (pre))),
+      λ h. omega (arith, h, c.if-shape-goal.false, shape-entries image table c.args.shape (c.requires)),
+      inl (refl, omega (arith, c.if-inner-start.true, shape-stages image table c.args.shape (c.requires))),
     ))
 
 pub returns-then-other_free : goal.returns-then-other_free
 returns-then-other_free c =
-    let args = c.args in
-    let pre = c.requires in
-    let if1 = c.if-shape-goal in
-    let if2 = c.if-inner-start in
-    let other-free = c.other_free in
-    let image = args.image.now in
-    let table = args.table.now in
-    let same = goal-byte image table args.shape (pre) args.goal if1.false in
-    given-later (setup_conditions image table) (goal_conditions image table args.goal args.start) R.FreeVariable pre.clear
+    let image = c.args.image.now in
+    let table = c.args.table.now in
+    let same = goal-byte image table c.args.shape (c.requires) c.args.goal c.if-shape-goal.false in
+    given-later (setup_conditions image table) (goal_conditions image table c.args.goal c.args.start) R.FreeVariable c.requires.clear
     (inr (
-      λ h. omega (arith, h, if1.false, shape-entries image table args.shape (pre)),
+      λ h. omega (arith, h, c.if-shape-goal.false, shape-entries image table c.args.shape (c.requires)),
       inr (
-        λ h. omega (arith, h, if2.false, shape-stages image table args.shape (pre)),
-        inl (refl, subst (λ (g : ℕ). OtherFree image table g) same (decided _ other-free.ensures c.if-other_free.true)),
+        λ h. omega (arith, h, c.if-inner-start.false, shape-stages image table c.args.shape (c.requires)),
+        inl (refl, subst (λ (g : ℕ). OtherFree image table g) same (decided _ c.other_free.ensures c.if-other_free.true)),
       ),
     ))
 
 pub returns : goal.returns
 returns c =
-    let args = c.args in
-    let pre = c.requires in
-    let if1 = c.if-shape-goal in
-    let if2 = c.if-inner-start in
-    let other-free = c.other_free in
-    let image = args.image.now in
-    let table = args.table.now in
-    let same = goal-byte image table args.shape (pre) args.goal if1.false in
+    let image = c.args.image.now in
+    let table = c.args.table.now in
+    let same = goal-byte image table c.args.shape (c.requires) c.args.goal c.if-shape-goal.false in
     record {
       clear =
-          clear_both (setup_conditions image table) (goal_conditions image table args.goal args.start) pre.clear (
-            λ h. omega (arith, h, if1.false, shape-entries image table args.shape (pre)),
+          clear_both (setup_conditions image table) (goal_conditions image table c.args.goal c.args.start) c.requires.clear (
+            λ h. omega (arith, h, c.if-shape-goal.false, shape-entries image table c.args.shape (c.requires)),
             (
-              λ h. omega (arith, h, if2.false, shape-stages image table args.shape (pre)),
+              λ h. omega (arith, h, c.if-inner-start.false, shape-stages image table c.args.shape (c.requires)),
               (
-                λ o. refuted _ other-free.ensures c.if-other_free.false (subst⁻¹ (λ (g : ℕ). OtherFree image table g) same o),
+                λ o. refuted _ c.other_free.ensures c.if-other_free.false (subst⁻¹ (λ (g : ℕ). OtherFree image table g) same o),
                 tt,
               ),
             ),
           );
       is = λ i.
           record {
-            shape = pre.is i;
-            goal = goal-byte image table args.shape (pre) args.goal if1.false i;
-            start = start-byte image table args.shape (pre) args.start if2.false i;
+            shape = c.requires.is i;
+            goal = goal-byte image table c.args.shape (c.requires) c.args.goal c.if-shape-goal.false i;
+            start = start-byte image table c.args.shape (c.requires) c.args.start c.if-inner-start.false i;
           };
     }

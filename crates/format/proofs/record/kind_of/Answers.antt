@@ -6,7 +6,7 @@ use Rattle.format.proofs.record.kind_of.Goals as goal
 
 pub returns-in_default : goal.returns-in_default
 returns-in_default c =
-    let rest = c.in_default.rest in
+    let rest = c.in_default.in_default-own.rest in
     let one = past-arm {k = c.args.kind} zero-le rest.0.0.0.0.0.0.0.0.0.0.0.1 in
     let two = past-arm one rest.0.0.0.0.0.0.0.0.0.0.1 in
     let three = past-arm two rest.0.0.0.0.0.0.0.0.0.1 in

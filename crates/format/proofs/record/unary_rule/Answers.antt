@@ -1,11 +1,11 @@
 -- `format::record::unary_rule` meets its contract: the tests are what the rule asks.
 -- Assumes nothing.
-use Rattle.model.specs.Decides.{granted, denied}
+use Rattle.model.specs.Decides.{decided, refuted}
 use native.Mathlib.Omega.{arith}
 use Rattle.format.proofs.record.unary_rule.Goals as goal
 
 pub returns-then-not-is_term : goal.returns-then-not-is_term
-returns-then-not-is_term c = λ rule. denied c.is_term.result _ c.is_term.ensures c.if-not-is_term.true rule.t
+returns-then-not-is_term c = λ rule. refuted _ c.is_term.ensures c.if-not-is_term.true rule.t
 
 pub returns : goal.returns
 returns c =
@@ -14,5 +14,5 @@ returns c =
       b = omega arith;
       x = omega arith;
       y = omega arith;
-      t = granted c.is_term.result _ c.is_term.ensures c.if-not-is_term.false;
+      t = decided _ c.is_term.ensures c.if-not-is_term.false;
     }

@@ -10,15 +10,9 @@ use Rattle.format.proofs.table.read.Goals as goal
 
 pub read_with-requires : goal.read_with-requires
 read_with-requires c =
-    let args = c.args in
-    let shape = c.shape-1 in
-    let read = c.read in
-    subst (λ (a : Answer). ImageAnswer args.image.now a) shape.given.1 read.ensures
+    subst (λ (a : Answer). ImageAnswer c.args.image.now a) c.in-Image.is c.read.ensures
 
 pub returns-in-Refused : goal.returns-in-Refused
 returns-in-Refused c =
-    let args = c.args in
-    let k = c.k-1 in
-    let read = c.read in
-    given-first (image_conditions args.image.now) (table_conditions args.image.now args.table.now) _
-    (subst (λ (a : Answer). ImageAnswer args.image.now a) k.given.1 read.ensures)
+    given-first (image_conditions c.args.image.now) (table_conditions c.args.image.now c.args.table.now) _
+    (subst (λ (a : Answer). ImageAnswer c.args.image.now a) c.in-Refused.is c.read.ensures)

@@ -2,7 +2,7 @@
 -- Assumes nothing.
 use mathlib.Core.Path.{refl}
 use mathlib.Core.Logic.{inl, inr}
-use Rattle.model.specs.Decides.{decided, refuted, granted, denied}
+use Rattle.model.specs.Decides.{decided, refuted}
 use Rattle.format.specs.Image.{image_conditions}
 use Rattle.format.specs.Table.{table_conditions}
 use Rattle.format.specs.declared.Refusal.TheVariants as R
@@ -16,7 +16,7 @@ returns-then-not-begins c =
     let image = c.args.image.now in
     let table = c.args.table.now in
     given-later (image_conditions image) (table_conditions image table) R.TableStart c.requires.clear
-    (inl (refl, denied c.begins.result _ c.begins.ensures c.if-not-begins.true))
+    (inl (refl, refuted _ c.begins.ensures c.if-not-begins.true))
 
 pub returns-then-not-entries_fit : goal.returns-then-not-entries_fit
 returns-then-not-entries_fit c =
@@ -24,100 +24,63 @@ returns-then-not-entries_fit c =
     let table = c.args.table.now in
     given-later (image_conditions image) (table_conditions image table) R.TableLength c.requires.clear
     (inr (
-      passed (granted c.begins.result _ c.begins.ensures c.if-not-begins.false),
-      inl (refl, denied c.entries_fit.result _ c.entries_fit.ensures c.if-not-entries_fit.true),
+      passed (decided _ c.begins.ensures c.if-not-begins.false),
+      inl (refl, refuted _ c.entries_fit.ensures c.if-not-entries_fit.true),
     ))
 
 pub returns-then-bad_record : goal.returns-then-bad_record
 returns-then-bad_record c =
-    let args = c.args in
-    let pre = c.requires in
-    let begins = c.begins in
-    let if1 = c.if-not-begins in
-    let entries_fit = c.entries_fit in
-    let if2 = c.if-not-entries_fit in
-    let bad-record = c.bad_record in
-    let image = args.image.now in
-    let table = args.table.now in
-    given-later (image_conditions image) (table_conditions image table) R.BadRecord pre.clear
+    let image = c.args.image.now in
+    let table = c.args.table.now in
+    given-later (image_conditions image) (table_conditions image table) R.BadRecord c.requires.clear
     (inr (
-      passed (granted begins.result _ begins.ensures if1.false),
+      passed (decided _ c.begins.ensures c.if-not-begins.false),
       inr (
-        passed (granted entries_fit.result _ entries_fit.ensures if2.false),
-        inl (refl, decided _ bad-record.ensures c.if-bad_record.true),
+        passed (decided _ c.entries_fit.ensures c.if-not-entries_fit.false),
+        inl (refl, decided _ c.bad_record.ensures c.if-bad_record.true),
       ),
     ))
 
 pub noted_all-flags-requires : goal.noted_all-flags-requires
 noted_all-flags-requires c =
-    let args = c.args in
-    let entries_fit = c.entries_fit in
-    let if2 = c.if-not-entries_fit in
-    let bad-record = c.bad_record in
-    all_small args.image.now args.table.now (granted entries_fit.result _ entries_fit.ensures if2.false)
-    (refuted _ bad-record.ensures c.if-bad_record.false)
+    all_small c.args.image.now c.args.table.now (decided _ c.entries_fit.ensures c.if-not-entries_fit.false)
+    (refuted _ c.bad_record.ensures c.if-bad_record.false)
 
 pub returns-then-flags : goal.returns-then-flags
 returns-then-flags c =
-    let args = c.args in
-    let pre = c.requires in
-    let begins = c.begins in
-    let if1 = c.if-not-begins in
-    let entries_fit = c.entries_fit in
-    let if2 = c.if-not-entries_fit in
-    let bad-record = c.bad_record in
-    let if3 = c.if-bad_record in
-    let noted-all = c.noted_all-flags in
-    let image = args.image.now in
-    let table = args.table.now in
-    given-later (image_conditions image) (table_conditions image table) R.OperandTwice pre.clear
+    let image = c.args.image.now in
+    let table = c.args.table.now in
+    given-later (image_conditions image) (table_conditions image table) R.OperandTwice c.requires.clear
     (inr (
-      passed (granted begins.result _ begins.ensures if1.false),
+      passed (decided _ c.begins.ensures c.if-not-begins.false),
       inr (
-        passed (granted entries_fit.result _ entries_fit.ensures if2.false),
+        passed (decided _ c.entries_fit.ensures c.if-not-entries_fit.false),
         inr (
-          refuted _ bad-record.ensures if3.false,
-          inl (refl, decided _ noted-all.ensures.twice c.if-flags.true),
+          refuted _ c.bad_record.ensures c.if-bad_record.false,
+          inl (refl, decided _ c.noted_all-flags.ensures.twice c.if-flags.true),
         ),
       ),
     ))
 
 pub nested_too_deep-requires : goal.nested_too_deep-requires
 nested_too_deep-requires c =
-    let args = c.args in
-    let entries_fit = c.entries_fit in
-    let if2 = c.if-not-entries_fit in
-    let bad-record = c.bad_record in
-    let if3 = c.if-bad_record in
-    let noted-all = c.noted_all-flags in
-    roots-of args.image.now args.table.now noted-all.result (granted entries_fit.result _ entries_fit.ensures if2.false)
-    (refuted _ bad-record.ensures if3.false) noted-all.ensures
+    roots-of c.args.image.now c.args.table.now c.noted_all-flags.result (decided _ c.entries_fit.ensures c.if-not-entries_fit.false)
+    (refuted _ c.bad_record.ensures c.if-bad_record.false) c.noted_all-flags.ensures
 
 pub returns-then-nested_too_deep : goal.returns-then-nested_too_deep
 returns-then-nested_too_deep c =
-    let args = c.args in
-    let pre = c.requires in
-    let begins = c.begins in
-    let if1 = c.if-not-begins in
-    let entries_fit = c.entries_fit in
-    let if2 = c.if-not-entries_fit in
-    let bad-record = c.bad_record in
-    let if3 = c.if-bad_record in
-    let noted-all = c.noted_all-flags in
-    let if4 = c.if-flags in
-    let nested-too-deep = c.nested_too_deep in
-    let image = args.image.now in
-    let table = args.table.now in
-    given-later (image_conditions image) (table_conditions image table) R.NestedTooDeep pre.clear
+    let image = c.args.image.now in
+    let table = c.args.table.now in
+    given-later (image_conditions image) (table_conditions image table) R.NestedTooDeep c.requires.clear
     (inr (
-      passed (granted begins.result _ begins.ensures if1.false),
+      passed (decided _ c.begins.ensures c.if-not-begins.false),
       inr (
-        passed (granted entries_fit.result _ entries_fit.ensures if2.false),
+        passed (decided _ c.entries_fit.ensures c.if-not-entries_fit.false),
         inr (
-          refuted _ bad-record.ensures if3.false,
+          refuted _ c.bad_record.ensures c.if-bad_record.false,
           inr (
-            refuted _ noted-all.ensures.twice if4.false,
-            inl (refl, decided _ nested-too-deep.ensures c.if-nested_too_deep.true),
+            refuted _ c.noted_all-flags.ensures.twice c.if-flags.false,
+            inl (refl, decided _ c.nested_too_deep.ensures c.if-nested_too_deep.true),
           ),
         ),
       ),
@@ -125,37 +88,25 @@ returns-then-nested_too_deep c =
 
 pub returns : goal.returns
 returns c =
-    let args = c.args in
-    let pre = c.requires in
-    let begins = c.begins in
-    let if1 = c.if-not-begins in
-    let entries_fit = c.entries_fit in
-    let if2 = c.if-not-entries_fit in
-    let bad-record = c.bad_record in
-    let if3 = c.if-bad_record in
-    let noted-all = c.noted_all-flags in
-    let if4 = c.if-flags in
-    let nested-too-deep = c.nested_too_deep in
-    let if5 = c.if-nested_too_deep in
-    let image = args.image.now in
-    let table = args.table.now in
+    let image = c.args.image.now in
+    let table = c.args.table.now in
     record {
       clear =
-          clear_both (image_conditions image) (table_conditions image table) pre.clear (
-            passed (granted begins.result _ begins.ensures if1.false),
+          clear_both (image_conditions image) (table_conditions image table) c.requires.clear (
+            passed (decided _ c.begins.ensures c.if-not-begins.false),
             (
-              passed (granted entries_fit.result _ entries_fit.ensures if2.false),
+              passed (decided _ c.entries_fit.ensures c.if-not-entries_fit.false),
               (
-                refuted _ bad-record.ensures if3.false,
+                refuted _ c.bad_record.ensures c.if-bad_record.false,
                 (
-                  refuted _ noted-all.ensures.twice if4.false,
+                  refuted _ c.noted_all-flags.ensures.twice c.if-flags.false,
                   (
-                    refuted _ nested-too-deep.ensures if5.false,
+                    refuted _ c.nested_too_deep.ensures c.if-nested_too_deep.false,
                     tt,
                   ),
                 ),
               ),
             ),
           );
-      is = λ i. record { image = pre.is i; entries = c.byte.ensures i };
+      is = λ i. record { image = c.requires.is i; entries = c.byte.ensures i };
     }
