@@ -1,7 +1,7 @@
 // The reader of a certificate's steps as a struct that holds the certificate's bytes and its place in them, over `rules::read_head`, which takes the
-// slice and the place by themselves. Each function over the struct is proved by a walk of its MIR, by hand; whoever calls `read_heads`, whose
-// parameters are plain, needs none.
+// slice and the place by themselves. `read_heads` reads two steps in a row with such a reader, and its own parameters are plain.
 #![tactic(auto)]
+
 ghost use Rattle.std.specs.Prelude.{◌≡◌};
 ghost use Rattle.reader.specs.Place.{place_after, reader_at, Stepped, heads_of};
 
