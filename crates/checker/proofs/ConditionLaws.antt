@@ -10,7 +10,7 @@ use native.Mathlib.Omega.{arith}
 use mathlib.Core.Path.{◌≡◌, refl, sym, ap, subst, ◌∙◌}
 use mathlib.Core.Bool.{Bool, true, false, not, ◌&&◌}
 use lib.Dec.{T}
-use borrow.Author.Tests.{eq-eqb, not-true, not-false}
+use borrow.Author.Tests.{eq-eqb}
 use Rattle.model.specs.Decides.{Decides}
 use Rattle.sets.specs.Member.{bit, Has}
 use Rattle.format.specs.Image.{member}
@@ -91,20 +91,20 @@ module _ (set : ℕ) {k s : ℕ} (k-is : k ≡ s) (on : Bool) (d : Decides on (H
   pub off-fails : on ≡ true → not (member set s) ≡ false
   off-fails e = ap not (sym on-is ∙ e)
 
-  pub on-holds : not on ≡ false → member set s ≡ true
-  on-holds e = sym on-is ∙ not-false on e
+  pub on-holds : on ≡ true → member set s ≡ true
+  on-holds e = sym on-is ∙ e
 
-  pub on-fails : not on ≡ true → member set s ≡ false
-  on-fails e = sym on-is ∙ not-true on e
+  pub on-fails : on ≡ false → member set s ≡ false
+  on-fails e = sym on-is ∙ e
 
 -- ---- a chosen stage
 
 -- A chosen stage that is no successor fails, whatever is asked besides; one that is leaves what is asked besides.
-pub chosen-fails : (b : Bool) {n : Bool} (m : Bool) → b ≡ n → not b ≡ true → (n && m) ≡ false
-chosen-fails b m e f = ap (λ (c : Bool). c && m) (sym e ∙ not-true b f)
+pub chosen-fails : (b : Bool) {n : Bool} (m : Bool) → b ≡ n → b ≡ false → (n && m) ≡ false
+chosen-fails b m e f = ap (λ (c : Bool). c && m) (sym e ∙ f)
 
-pub chosen-holds : (b : Bool) {n : Bool} {m : Bool} → b ≡ n → not b ≡ false → m ≡ true → (n && m) ≡ true
-chosen-holds b {m = m} e f g = ap (λ (c : Bool). c && m) (sym e ∙ not-false b f) ∙ g
+pub chosen-holds : (b : Bool) {n : Bool} {m : Bool} → b ≡ n → b ≡ true → m ≡ true → (n && m) ≡ true
+chosen-holds b {m = m} e f g = ap (λ (c : Bool). c && m) (sym e ∙ f) ∙ g
 
 -- What is asked besides fails, whatever the chosen stage.
 pub besides-fails : (n : Bool) {m : Bool} → m ≡ false → (n && m) ≡ false
@@ -112,8 +112,8 @@ besides-fails true e = e
 besides-fails false e = refl
 
 -- A chosen stage that passed is a successor.
-pub chosen-next : (b : Bool) {n : Bool} → b ≡ n → not b ≡ false → T n
-chosen-next b e f = subst T (sym (not-false b f) ∙ e) tt
+pub chosen-next : (b : Bool) {n : Bool} → b ≡ n → b ≡ true → T n
+chosen-next b e f = subst T (sym f ∙ e) tt
 
 -- A stage whose test passed is not on the walk.
 pub off-walk : (set s : ℕ) → not (member set s) ≡ true → Has set s → ⊥

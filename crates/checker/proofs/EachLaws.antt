@@ -15,7 +15,7 @@ use mathlib.Core.Logic.{◌↔◌, ◌≢◌, ⊎_elim}
 use lib.Bits.{bit_and}
 use lib.Count.{ones, count_trailing_zeros}
 use lib.Dec.{T}
-use Rattle.model.specs.Decides.{Decides, denied, granted}
+use Rattle.model.specs.Decides.{Decides, decided, refuted}
 use Rattle.sets.specs.Member.{Has, Empty}
 use Rattle.sets.specs.Number.{width}
 use Rattle.sets.proofs.LawsMember.{has-test, empty-zero, side?}
@@ -123,9 +123,9 @@ module _ (n : ℕ) (next : ℕ → Bool) (inside : (t : ℕ) → T (next t) → 
           (side? j g.from)
 
 -- A turn, as the code's tests and calls tell it.
-pub turn-of : {left k left' : ℕ} (e : Bool) → Decides e (Empty left) → not e ≡ true → k ≡ count_trailing_zeros width left → left' ≡ bit_and left (left - 1)
+pub turn-of : {left k left' : ℕ} (e : Bool) → Decides e (Empty left) → e ≡ false → k ≡ count_trailing_zeros width left → left' ≡ bit_and left (left - 1)
     → Turn left k left'
-turn-of {left} e d t k-is rest-is = record { some = denied e (Empty left) d t; lowest = k-is; others = rest-is }
+turn-of {left} e d t k-is rest-is = record { some = refuted (Empty left) d t; lowest = k-is; others = rest-is }
 
 -- ---- the successors of a stage
 
@@ -146,9 +146,9 @@ module _ {image table : List ℕ} (small : Small image table) (s : ℕ) (read : 
     pub each_next : {p : Progress} → p ≡ onward here (read k) → Each left' p
     each_next e = turns_next (stages_of image) ((graph_of image).next s) inside read came g turn e
 
-  pub each-end : {left : ℕ} {here : Progress} → Each left here → (e : Bool) → Decides e (Empty left) → not e ≡ false
+  pub each-end : {left : ℕ} {here : Progress} → Each left here → (e : Bool) → Decides e (Empty left) → e ≡ true
       → here ≡ onward came (through (stages_of image) ((graph_of image).next s) read)
-  each-end {left} g e d f = turns-end (stages_of image) ((graph_of image).next s) inside read came g (granted e (Empty left) d f)
+  each-end {left} g e d f = turns-end (stages_of image) ((graph_of image).next s) inside read came g (decided (Empty left) d f)
 
   pub each-stops : {left : ℕ} {here : Progress} → Each left here → ((k : Reader) → onward here k ≡ here)
       → here ≡ onward came (through (stages_of image) ((graph_of image).next s) read)

@@ -70,7 +70,7 @@ module _ (sets entries steps : List ℕ) (e : ℕ) (env : Env) (s : ℕ) where
           (goes fault (read_a image table steps side e (record_at table e) env t) inside refl (read.is w (at_stage w).0));
     }
 
-  pub at-end : {at left here fault : ℕ} → AtEach at left here fault → (none : Bool) → Decides none (Empty left) → not none ≡ false
+  pub at-end : {at left here fault : ℕ} → AtEach at left here fault → (none : Bool) → Decides none (Empty left) → none ≡ true
       → EachRead sets entries steps e env s at fault here
   at-end {at} g none d f = record {
     is = λ {image} {table} {side} w.
@@ -140,7 +140,7 @@ module _ (sets entries steps : List ℕ) (e : ℕ) (env : Env) (s : ℕ) where
           };
         }
 
-    pub going_end : {left here fault : ℕ} → Going left here fault → (none : Bool) → Decides none (Empty left) → not none ≡ false
+    pub going_end : {left here fault : ℕ} → Going left here fault → (none : Bool) → Decides none (Empty left) → none ≡ true
         → WalkRead sets entries steps e env set s at fault here
     going_end g none d f = record {
       is = λ {image} {table} {side} w.

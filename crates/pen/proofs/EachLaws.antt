@@ -15,7 +15,7 @@ use lib.Bits.{bit_and}
 use lib.Count.{count_trailing_zeros}
 use lib.Dec.{T}
 use lib.ListN.{length}
-use Rattle.model.specs.Decides.{Decides, denied, granted}
+use Rattle.model.specs.Decides.{Decides, decided, refuted}
 use Rattle.model.specs.Graph.{Graph, Next}
 use Rattle.sets.specs.Member.{Has, Empty}
 use Rattle.sets.specs.Number.{width}
@@ -54,9 +54,9 @@ pub record Turns (n : ℕ) (next : ℕ → Bool) (f : ℕ → List ℕ) (w : Boo
   pub wrote : Wrote w (through from next f) place before left here
 
 -- A turn, as the code's tests and calls tell it.
-pub turn-of : {there k others : ℕ} (e : Bool) → Decides e (Empty there) → not e ≡ true → k ≡ count_trailing_zeros width there
+pub turn-of : {there k others : ℕ} (e : Bool) → Decides e (Empty there) → e ≡ false → k ≡ count_trailing_zeros width there
     → others ≡ bit_and there (there - 1) → Turn there k others
-turn-of {there} e d t k-is rest-is = record { some = denied e (Empty there) d t; lowest = k-is; others = rest-is }
+turn-of {there} e d t k-is rest-is = record { some = refuted (Empty there) d t; lowest = k-is; others = rest-is }
 
 module _ (n : ℕ) (next : ℕ → Bool) (f : ℕ → List ℕ) (w : Bool) (place : ℕ) (before : List ℕ) where
   -- At the start every successor is left.
@@ -152,6 +152,6 @@ module _ {next : List ℕ} {n : ℕ} {G : Graph} (row : Row next n G) {s : ℕ} 
     pub each_next : {last : List ℕ} {after : ℕ} → Wrote w (f k) here left last after → Each others last after
     each_next wrote = turns_next G.stages (G.next s) f w place before g turn wrote
 
-  pub each-end : {there here : ℕ} {left : List ℕ} → Each there left here → (e : Bool) → Decides e (Empty there) → not e ≡ false
+  pub each-end : {there here : ℕ} {left : List ℕ} → Each there left here → (e : Bool) → Decides e (Empty there) → e ≡ true
       → Wrote w (through G.stages (G.next s) f) place before left here
-  each-end {there} g e d n-e = turns-end G.stages (G.next s) f w place before g (granted e (Empty there) d n-e)
+  each-end {there} g e d n-e = turns-end G.stages (G.next s) f w place before g (decided (Empty there) d n-e)
