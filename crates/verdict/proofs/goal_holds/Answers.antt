@@ -1,0 +1,12 @@
+-- `verdict::goal_holds` meets its contract: the row is decoded, and the test of the goal is asked where the variables start.
+use lib.Dec.{lit≤}
+use Rattle.verdict.proofs.AnswerLaws.{question-ready, question-row, goal-test}
+use Rattle.verdict.proofs.goal_holds.Goals as goal
+
+pub holds-requires : goal.holds-requires
+holds-requires c =
+    question-ready c.requires.clear (question-row c.requires (lit≤ tt) c.decode.ensures)
+
+pub returns : goal.returns
+returns c =
+    goal-test c.args.image.now c.args.table.now c.args.q.goal c.args.q.start c.holds.ensures
