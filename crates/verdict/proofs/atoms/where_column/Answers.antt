@@ -1,5 +1,4 @@
 -- `verdict::atoms::where_column` meets its contract. The loop's invariant: the stages found are those below s with P(s, b).
-use mathlib.Core.Logic.{⊎_elim}
 use mathlib.Core.Path.{◌∙◌, sym, ap}
 use native.Mathlib.Omega.{arith}
 use borrow.Author.Rules.{rules}
@@ -7,6 +6,7 @@ use Rattle.sets.specs.Number.{number}
 use Rattle.verdict.proofs.AtomLaws.{column-turn}
 use Rattle.verdict.proofs.CollectLaws.{collects-start, collects-take, collects-skip, collects-end}
 use Rattle.verdict.proofs.atoms.where_column.Goals as goal
+use Rattle.verdict.proofs.atoms.where_column.Goals.{then-has, else-has}
 
 pub loop-s-init : goal.loop-s-init
 loop-s-init c = (search rules, collects-start _ c.empty-found.ensures)
@@ -17,10 +17,10 @@ loop-s-preserved c =
     let own = column-turn c.args.image.now c.args.first c.args.b c.args.env c.args.x c.loop-s.s c.requires.2 c.bound.ensures c.stage_of-c.ensures
     c.set.ensures c.has.ensures in (
       search rules,
-      ⊎_elim
-          (λ w. collects-take inv.1 (omega arith) (sym own ∙ w.0.taken) (ap number w.2 ∙ w.1.ensures))
-          (λ w. collects-skip inv.1 (sym own ∙ w.0.left) (ap number w.1))
-          c.if-has.branch,
+      elim c.if-has.branch [
+            then-has w ↦ collects-take inv.1 (omega arith) (sym own ∙ w.if-has.true) (ap number w.found-is ∙ w.with-found.ensures)
+          | else-has w ↦ collects-skip inv.1 (sym own ∙ w.if-has.false) (ap number w.found-is)
+          ],
     )
 
 pub returns : goal.returns

@@ -1,6 +1,5 @@
 -- `verdict::evaluation::where_holds`, `where_modal`, `where_each` and `modal_set` meet their contracts. The measure is four times the entry's
 -- number, and as much more as each of them stands above `modal_set`, which goes on to lower entries.
-use mathlib.Core.Logic.{⊎_elim}
 use mathlib.Core.Path.{refl, sym, ap, ◌∙◌}
 use native.Mathlib.Omega.{arith}
 use borrow.Author.Rules.{rules}
@@ -13,6 +12,7 @@ use Rattle.verdict.proofs.EvaluationLaws.{constant-arm, literal-arm, junction-ar
 use Rattle.verdict.proofs.EvaluationLaws.{settled-arm, no-set, each_turn, once-arm}
 use Rattle.verdict.proofs.EvaluationLaws.{ready-bound, ready-rule, unary-operand, binary-first, binary-second, junction-first, junction-second}
 use Rattle.verdict.proofs.evaluation.+modal_set_where_each_where_holds_where_modal.Goals as goal
+use Rattle.verdict.proofs.evaluation.+modal_set_where_each_where_holds_where_modal.Goals.{where_each-then-has, where_each-else-has}
 
 pub modal_set-where_holds-a-requires : goal.modal_set-where_holds-a-requires
 modal_set-where_holds-a-requires t c =
@@ -72,10 +72,10 @@ where_each-loop-s-preserved t c =
     let own = each_turn ready c.requires.1 c.loop-s-test.true c.entry-r.ensures c.bound-here.ensures c.modal_set-from.ensures c.stage_of.ensures
     c.has.ensures in (
       search rules,
-      ⊎_elim
-          (λ w. collects-take inv.1 (omega (arith, ready.row.room)) (sym own ∙ w.0.taken) (ap number w.2 ∙ w.1.ensures))
-          (λ w. collects-skip inv.1 (sym own ∙ w.0.left) (ap number w.1))
-          c.if-has.branch,
+      elim c.if-has.branch [
+            where_each-then-has w ↦ collects-take inv.1 (omega (arith, ready.row.room)) (sym own ∙ w.if-has.true) (ap number w.found-is ∙ w.with-found.ensures)
+          | where_each-else-has w ↦ collects-skip inv.1 (sym own ∙ w.if-has.false) (ap number w.found-is)
+          ],
     )
 
 pub where_each-returns : goal.where_each-returns

@@ -17,8 +17,8 @@ decreases-where_holds l = 4 * l.e + 3
 abbrev pub decreases-where_modal : goal.decreases-where_modal
 decreases-where_modal l = 4 * l.e + 2
 
-abbrev pub where_each-invariant-loop-s : goal.where_each-invariant-loop-s
-where_each-invariant-loop-s l = (l.s ≤ l.n) × Collects l.s (modal_at l.image l.table l.e l.env l.x) (number l.found)
+abbrev pub invariant-where_each-loop-s : goal.invariant-where_each-loop-s
+invariant-where_each-loop-s l = (l.s ≤ l.n) × Collects l.s (modal_at l.image l.table l.e l.env l.x) (number l.found)
 
-abbrev pub where_each-decreases-loop-s : goal.where_each-decreases-loop-s
-where_each-decreases-loop-s l = l.n - l.s
+abbrev pub decreases-where_each-loop-s : goal.decreases-where_each-loop-s
+decreases-where_each-loop-s l = l.n - l.s
