@@ -1,0 +1,12 @@
+-- `guide::sides::where_on` meets its contract: the verdict's set, and on a side other than 0 the stages that are not in it.
+use Rattle.guide.proofs.SideLaws.{where-zero, where-dual}
+use Rattle.guide.proofs.sides.where_on.Goals as goal
+
+pub returns-then-side-eq0 : goal.returns-then-side-eq0
+returns-then-side-eq0 c =
+    where-zero c.args.image.now c.args.table.now c.args.e c.args.env _ _ _ _ c.if-side-eq0.true c.where_holds-held.ensures
+
+pub returns-else-side-eq0 : goal.returns-else-side-eq0
+returns-else-side-eq0 c =
+    where-dual c.args.image.now c.args.table.now c.args.e c.args.env c.args.side _ _ c.if-side-eq0.false c.requires.0.row.room
+    c.below.ensures c.where_holds-held.ensures c.minus.ensures
