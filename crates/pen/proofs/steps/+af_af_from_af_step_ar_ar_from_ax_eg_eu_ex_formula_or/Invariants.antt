@@ -1,0 +1,91 @@
+-- The writers of steps, `writer::steps`, meet their contracts: one proof for the whole cycle of calls.
+-- `af_from`, `af` and `af_step` meet their contracts: a walk of AF, with the lengths that are noted.
+use lib.Count.{ones}
+use Rattle.sets.specs.Number.{number}
+use Rattle.format.specs.Image.{stages_of, graph_of}
+use Rattle.hand.specs.Environment.{env_of}
+use Rattle.pen.proofs.EachLaws.{Turns}
+use Rattle.pen.specs.Steps.{a_of, af_steps, Noted}
+use Prim.Native.Nat.{◌-◌}
+use Rattle.logic.specs.Test as Test
+use Rattle.rules.specs.Kind.{Kind}
+use Rattle.checker.specs.Reading.{walk_of}
+use Rattle.pen.specs.Steps.{a_of, two_steps}
+use Rattle.format.specs.Image.{graph_of}
+use Rattle.pen.specs.Steps.{a_of}
+use Rattle.pen.proofs.StepLaws.{EgGoing, EuGoing}
+use Prim.Native.Nat.{◌+◌, ◌*◌}
+use Rattle.format.specs.declared.record.Kind.TheVariants as K
+use Rattle.pen.specs.Steps.{a_of, start_of}
+use Rattle.pen.proofs.steps.+af_af_from_af_step_ar_ar_from_ax_eg_eu_ex_formula_or.Given as goal
+
+abbrev pub invariant-af_step-loop-env : goal.invariant-af_step-loop-env
+invariant-af_step-loop-env l =
+    Turns (stages_of l.image) ((graph_of l.image).next l.s) (af_steps l.image l.table l.side l.e (env_of l.env)) l.write l.initial.here l.initial.out (number l.there) l.out l.here
+    × Noted l.image l.table l.side l.e (env_of l.env) l.lens
+
+abbrev pub decreases-af_step-loop-env : goal.decreases-af_step-loop-env
+decreases-af_step-loop-env l = ones (number l.there)
+
+abbrev pub invariant-ar-loop-env : goal.invariant-ar-loop-env
+invariant-ar-loop-env l =
+    Turns (stages_of l.image) ((graph_of l.image).next l.s) (two_steps l.image l.table l.side Kind.AR l.e (env_of l.env) (l.left - 1) (walk_of (number l.longer))) l.write l.initial.here l.initial.out
+    (number l.there) l.out l.here
+
+abbrev pub decreases-ar-loop-env : goal.decreases-ar-loop-env
+decreases-ar-loop-env l = ones (number l.there)
+
+abbrev pub invariant-eg-loop-left : goal.invariant-eg-loop-left
+invariant-eg-loop-left l =
+    EgGoing l.image l.table l.side l.e l.env l.write l.at l.initial.out (number l.walk) l.s l.left l.out l.here
+
+abbrev pub decreases-eg-loop-left : goal.decreases-eg-loop-left
+decreases-eg-loop-left l = l.left
+
+abbrev pub invariant-eu-loop-left : goal.invariant-eu-loop-left
+invariant-eu-loop-left l =
+    EuGoing l.image l.table l.side l.e l.env l.write l.at l.initial.out l.s l.left l.out l.here
+
+abbrev pub decreases-eu-loop-left : goal.decreases-eu-loop-left
+decreases-eu-loop-left l = l.left
+
+abbrev pub decreases-af : goal.decreases-af
+decreases-af l = 400 * l.e + 4 * l.left + 2
+
+abbrev pub decreases-af_from : goal.decreases-af_from
+decreases-af_from l = 400 * l.e + 380
+
+abbrev pub decreases-af_step : goal.decreases-af_step
+decreases-af_step l = 400 * l.e + 4 * l.left + 1
+
+abbrev pub decreases-ar : goal.decreases-ar
+decreases-ar l = 400 * l.e + 4 * l.left + 1
+
+abbrev pub decreases-ar_from : goal.decreases-ar_from
+decreases-ar_from l = 400 * l.e + 380
+
+abbrev pub decreases-ax : goal.decreases-ax
+decreases-ax l = 400 * l.e + 380
+
+abbrev pub decreases-eg : goal.decreases-eg
+decreases-eg l = 400 * l.e + 380
+
+abbrev pub decreases-eu : goal.decreases-eu
+decreases-eu l = 400 * l.e + 380
+
+abbrev pub decreases-ex : goal.decreases-ex
+decreases-ex l = 400 * l.e + 380
+
+abbrev pub decreases-formula : goal.decreases-formula
+decreases-formula l = 400 * l.e + 390
+
+abbrev pub decreases-or : goal.decreases-or
+decreases-or l = 400 * l.e + 380
+
+abbrev pub invariant-ax-loop-env : goal.invariant-ax-loop-env
+invariant-ax-loop-env l =
+    Turns (stages_of l.image) ((graph_of l.image).next (start_of l.image l.table l.side l.e (env_of l.env))) (a_of l.image l.table l.side l.e (env_of l.env)).steps l.write l.initial.here l.initial.out
+    (number l.there) l.out l.here
+
+abbrev pub decreases-ax-loop-env : goal.decreases-ax-loop-env
+decreases-ax-loop-env l = ones (number l.there)
