@@ -26,7 +26,7 @@ use Rattle.format.specs.declared.Refusal.TheVariants as R
 use Rattle.format.proofs.RefusalLaws.{number-injective, given-first}
 use Rattle.format.proofs.Decision.{outcome, decided-both, question-decided}
 use Rattle.rules.specs.Shape.{Entry}
-use Rattle.rules.specs.Refusals.{accepted, refused, at_end, answer, Given22, Given23, Given24, Given25}
+use Rattle.rules.specs.Refusals.{refused, at_end, answer, Given22, Given23, Given24, Given25}
 use Rattle.rules.specs.declared.Progress.{Progress}
 use Rattle.rules.proofs.Refused as rules
 use Rattle.hand.specs.Side.{sided}

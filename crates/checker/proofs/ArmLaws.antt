@@ -28,13 +28,13 @@ use Rattle.sets.specs.Number.{width}
 use Rattle.sets.specs.Row.{held}
 use Rattle.sets.proofs.LawsMember.{side?}
 use Rattle.format.specs.Image.{stages_of, graph_of}
-use Rattle.format.specs.Table.{entries_of, record_at, kind_of, sort_of, term_of, IsTerm, a_stage, a_variable, RuledAs}
+use Rattle.format.specs.Table.{record_at, kind_of, sort_of, term_of, IsTerm, a_stage, a_variable, RuledAs}
 use Rattle.format.specs.declared.record.Record.{Record}
 use Rattle.format.specs.declared.record.Kind.{Kind}
 use Rattle.format.specs.declared.record.Kind.TheVariants as K
 use Rattle.rules.specs.Table.{row, kind_for}
 use Rattle.rules.specs.Head.{head_of}
-use Rattle.rules.specs.Reading.{Reader, onward}
+use Rattle.rules.specs.Reading.{Reader}
 use Rattle.rules.specs.declared.Rule.{Rule}
 use Rattle.rules.specs.declared.Head.{Head}
 use Rattle.rules.specs.declared.Progress.{Progress}
@@ -53,7 +53,7 @@ use Rattle.hand.proofs.SetupLaws.{next-set}
 use Rattle.hand.proofs.SideLaws.{of_number, start-side}
 use Rattle.checker.specs.Reading.{InHand, OnWalk, Handed, Walking, Started, Past, told}
 use Rattle.checker.specs.Reading.{allows, read_entry, read_operand, read_a, read_b, read_along, read_premises_of}
-use Rattle.checker.proofs.ReadingLaws.{lower-operand, from_start, step-missing, step-wrong, step-fails, step-proves}
+use Rattle.checker.proofs.ReadingLaws.{lower-operand, step-missing, step-wrong, step-fails, step-proves}
 use Rattle.checker.proofs.ToldLaws.{told_at, told-missing, told-wrong, told-fails}
 
 -- ---- kinds on a side

@@ -9,11 +9,11 @@
 use Prim.Native.Nat.{ℕ, zero, suc, ◌-◌, ◌^◌, ◌≤◌, ◌<◌}
 use native.Mathlib.Omega.{arith}
 use mathlib.Core.Path.{◌≡◌, refl, sym, ap, ap₂, subst, ◌∙◌, fun_ext}
-use mathlib.Core.Bool.{Bool, true, false, not}
+use mathlib.Core.Bool.{Bool, true, false}
 use mathlib.Core.List.{List}
 use mathlib.Core.Logic.{◌↔◌, ◌≢◌, ⊎_elim}
 use lib.Bits.{bit_and}
-use lib.Count.{ones, count_trailing_zeros}
+use lib.Count.{count_trailing_zeros}
 use lib.Dec.{T}
 use Rattle.model.specs.Decides.{Decides, decided, refuted}
 use Rattle.sets.specs.Member.{Has, Empty}

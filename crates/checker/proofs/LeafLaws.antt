@@ -16,7 +16,7 @@ use Rattle.rules.specs.Table.{kind_for}
 use Rattle.rules.specs.declared.Rule.{Rule}
 use Rattle.rules.specs.declared.Progress.{Progress}
 use Rattle.hand.specs.Hand.{start_in, atom_in}
-use Rattle.hand.specs.Setup.{kind_in, field_at, entry_at, atom_from}
+use Rattle.hand.specs.Setup.{field_at, entry_at, atom_from}
 use Rattle.hand.proofs.EntryLaws.{entry-atom}
 use Rattle.checker.specs.Reading.{Past, told, read_entry, read_along}
 use Rattle.checker.proofs.ConditionLaws.{for-true, for-holds, for-holds-not}

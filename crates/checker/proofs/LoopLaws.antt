@@ -6,10 +6,9 @@
 --     Going, going_start, going-stage, going_next, going_end, going-stops
 --                                                             the walk at each successor, its stage added
 --     going-grows                                             one stage more is then on the walk
-use Prim.Native.Nat.{ℕ, suc, ◌-◌, ◌^◌, ◌≤◌, ◌<◌}
-use native.Mathlib.Omega.{arith}
+use Prim.Native.Nat.{ℕ, suc, ◌^◌, ◌≤◌, ◌<◌}
 use mathlib.Core.Path.{◌≡◌, refl, sym, ap, subst₂, ◌∙◌}
-use mathlib.Core.Bool.{Bool, not, true, false}
+use mathlib.Core.Bool.{Bool, not, true}
 use mathlib.Core.List.{List}
 use lib.Bits.{bit_or}
 use lib.Count.{ones}

@@ -12,13 +12,13 @@
 --                                           an answer, and one only, of one number
 --
 -- Assumes nothing.
-use Prim.Native.Nat.{ℕ, zero, suc, ◌≤◌, ◌<◌}
+use Prim.Native.Nat.{ℕ, zero, suc, ◌≤◌}
 use native.Mathlib.Omega.{arith}
 use mathlib.Core.Path.{◌≡◌, refl, sym, ap, ◌∙◌, subst}
 use mathlib.Core.List.{List}
 use mathlib.Core.Logic.{◌↔◌, ◌⊎◌, ⊎_elim}
-use lib.Dec.{ltb, lit<, lit≤}
-use lib.ListN.{length, drop}
+use lib.Dec.{ltb, lit≤}
+use lib.ListN.{drop}
 use Rattle.model.specs.Formula.{Formula, Env, pick, Free}
 use Rattle.logic.specs.Meaning.{Holds}
 use Rattle.logic.proofs.Sound.{sound}

@@ -6,7 +6,7 @@
 --     from_start                      an entry, from the start of its walk
 --     step-missing, step-wrong, step-fails, step-proves
 --                                     one step of a walk
-use Prim.Native.Nat.{ℕ, zero, suc, ◌-◌, ◌≤◌, ◌<◌}
+use Prim.Native.Nat.{ℕ, suc, ◌-◌, ◌<◌}
 use native.Mathlib.Omega.{arith}
 use mathlib.Core.Path.{◌≡◌, refl, sym, ap, ap₂, subst, ◌∙◌, fun_ext}
 use mathlib.Core.Bool.{Bool, true, false}
@@ -34,7 +34,7 @@ use Rattle.hand.specs.Side.{sided, kind_on, number_of}
 use Rattle.hand.specs.Hand.{start_in}
 use Rattle.checker.specs.Reading.{walk_of, allows, read_entry, read_operand, read_along, read_on, read_premises_of}
 use Rattle.hand.proofs.SideLaws.{sided-entry, start-side}
-use Rattle.checker.proofs.StepLaws.{M, rule-read, by_kind, by-rule, start-kind, proves}
+use Rattle.checker.proofs.StepLaws.{M, rule-read, by_kind, by-rule, start-kind}
 
 -- ---- readings in turn
 

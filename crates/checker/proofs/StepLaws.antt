@@ -16,7 +16,6 @@ use Rattle.format.specs.Table.{kind_of, sort_of, term_of, atom_of, made_as}
 use Rattle.format.specs.declared.record.Record.{Record}
 use Rattle.format.specs.declared.record.Kind.{Kind}
 use Rattle.format.specs.declared.record.Kind.TheVariants as K
-use Rattle.rules.specs.Kind.{number}
 use Rattle.rules.specs.Table.{row, body, kind_for}
 use Rattle.rules.specs.Head.{head_of}
 use Rattle.rules.specs.Shape.{Entry, Shape, shape}

@@ -1,6 +1,7 @@
 // Checking a certificate: whether its bytes are the steps of a proof, by the rules of document 01, of the goal or of its dual. Nothing here
 // knows how a certificate was found.
 #![tactic(auto)]
+
 pub mod answer;
 mod header;
 mod steps;

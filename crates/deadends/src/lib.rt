@@ -3,6 +3,7 @@
 // A stage is a dead end exactly when EU(true, fired) does not hold there, so the report is all stages less the set that the crate `modal` works
 // out for that: with n stages at most n rounds of n operations. Every public function takes any input.
 #![tactic(auto)]
+
 pub mod answer;
 
 ghost use Rattle.std.specs.Prelude.{◌≡◌, min};

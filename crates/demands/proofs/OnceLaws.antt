@@ -10,7 +10,6 @@ use native.Mathlib.Omega.{arith}
 use mathlib.Core.Path.{◌≡◌, sym, ◌∙◌, subst}
 use mathlib.Core.List.{List}
 use mathlib.Core.Logic.{⊎_elim}
-use lib.Dec.{T}
 use lib.ListN.{length}
 use lib.Seq.{ext_get_or}
 use Rattle.model.specs.Formula.{Formula}
@@ -18,7 +17,7 @@ use Rattle.sets.specs.Member.{Within}
 use Rattle.sets.specs.Number.{number, width}
 use Rattle.sets.specs.Row.{held, Put}
 use Rattle.sets.specs.declared.Set.{Set}
-use Rattle.sets.proofs.LawsMember.{same?, has-lt, has-test, within-antisym}
+use Rattle.sets.proofs.LawsMember.{same?, has-lt, within-antisym}
 use Rattle.sets.proofs.LawsRow.{set_same, room-enough}
 use Rattle.format.specs.Image.{FirstSet}
 use Rattle.format.specs.Reading.{Variables}

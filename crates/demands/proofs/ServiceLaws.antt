@@ -41,7 +41,6 @@ use Rattle.format.proofs.RefusalLaws.{given-first, given-later, number-injective
 use Rattle.hand.specs.Environment.{started}
 use Rattle.verdict.specs.Verdict.{VerdictAnswer}
 use Rattle.verdict.specs.declared.answer.Verdict.{Verdict}
-use Rattle.verdict.specs.declared.answer.Verdict.TheVariants as Verdict
 use Rattle.checker.specs.Check.{reading, outer_conditions, step_conditions, CheckAnswer, coded, CodedAnswer}
 use Rattle.checker.specs.Certificate.{Bytes}
 use Rattle.checker.specs.declared.answer.Answer.{Answer}
@@ -51,7 +50,6 @@ use Rattle.checker.proofs.Promise.{check-answers, check-once, coded-injective, c
 use Rattle.deadends.specs.DeadEnd.{fired_conditions, report_conditions}
 use Rattle.deadends.specs.Report.{ReportAnswer}
 use Rattle.deadends.specs.declared.answer.Report.{Report}
-use Rattle.deadends.specs.declared.answer.Report.TheVariants as Report
 use Rattle.deadends.proofs.DeadEndLaws.{Able, able-test, dead-unless, clear-image}
 use Rattle.line.specs.Line.{refusal_line, Printed}
 use Rattle.reply.specs.Reply.{Answers}

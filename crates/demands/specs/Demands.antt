@@ -30,7 +30,6 @@ use Rattle.hand.specs.Environment.{started}
 use Rattle.hand.specs.Side.{sided}
 use Rattle.verdict.specs.Verdict.{VerdictAnswer}
 use Rattle.verdict.specs.declared.answer.Verdict.{Verdict}
-use Rattle.verdict.specs.declared.answer.Verdict.TheVariants as Verdict
 use Rattle.checker.specs.Check.{CheckAnswer, coded, CodedAnswer}
 use Rattle.checker.specs.Certificate.{Derivation, certificate_of, Certifies, Bytes}
 use Rattle.checker.specs.declared.answer.Answer.{Answer}

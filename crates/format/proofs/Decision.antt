@@ -2,25 +2,24 @@
 -- holds, whatever the bytes; "it is not so that it does not fit" is "it fits"; and on bytes that are written out an answer is computed.
 use Prim.Native.Nat.{ℕ, zero, suc, ◌+◌, ◌-◌, ◌*◌, ◌≤◌, ◌<◌, ◌^◌}
 use native.Mathlib.Omega.{arith}
-use mathlib.Core.Path.{◌≡◌, refl, sym, subst, ap, ◌∙◌}
+use mathlib.Core.Path.{◌≡◌, refl, sym, subst}
 use mathlib.Core.Bool.{Bool, true, false}
 use mathlib.Core.List.{List, [], ◌∷◌, ◌++◌}
-use mathlib.Core.Logic.{◌⊎◌, inl, inr, ⊎_elim, ◌↔◌}
+use mathlib.Core.Logic.{◌⊎◌, inl, inr, ⊎_elim}
 use lib.ListN.{length, get_or}
 use lib.Dec.{T, leb, eqb}
 use borrow.Author.Tests.{leb-true, leb-false, eqb-true, eqb-false}
 use Rattle.model.specs.Formula.{Formula, truth, falsity, is, is_not, and, or, AX, EX, AF, EG, AR}
 use Rattle.model.specs.Formula.{EU, Term, stage, variable, Atom, one, two, Names, FreeInAtom, Under, Free, nesting}
-use Rattle.sets.specs.Member.{Has, Empty}
 use Rattle.sets.proofs.LawsMember.{side?, empty-zero, within-lt, has-below, has-lt}
 use Rattle.format.proofs.ImageLaws.{outside}
 use Rattle.format.proofs.RefusalLaws.{number-injective, number-some}
 use Rattle.format.specs.Bytes.{Begins, byte_at, word_at}
 use Rattle.format.specs.Refusal.{number, Condition, Given, Clear}
 use Rattle.format.specs.Image.{stages_of, predicates_of, arity_of, sets_in, set_of, length_of, SizesFit}
-use Rattle.format.specs.Image.{ArityFits, AritiesFit, LengthFits, HighBitIn, HighBit, DeadStop, image_conditions}
+use Rattle.format.specs.Image.{ArityFits, LengthFits, HighBitIn, HighBit, DeadStop, image_conditions}
 use Rattle.format.specs.Table.{entries_of, record_at, kind_of, sort_of, IsTerm, a_stage, a_variable, SecondTerm, unused, used}
-use Rattle.format.specs.Table.{ConstantRule, AtomRule, JunctionRule, UnaryRule, BinaryRule, RuledAs, Ruled, operands, tree_of}
+use Rattle.format.specs.Table.{RuledAs, Ruled, operands, tree_of}
 use Rattle.format.specs.Table.{EntriesFit, BadRecord, Twice, OperandTwice, NestedTooDeep, table_conditions}
 use Rattle.format.specs.Question.{OtherFree, goal_conditions, setup_conditions, question_conditions}
 use Rattle.format.specs.declared.Refusal.{Refusal}

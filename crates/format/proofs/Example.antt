@@ -2,12 +2,11 @@
 -- refusal that is given, 0 where nothing is refused. Each row is computed.
 use Prim.Native.Nat.{ℕ}
 use mathlib.Core.Path.{◌≡◌, refl}
-use mathlib.Core.List.{List}
 use Rattle.sets.specs.Number.{stored}
 use Rattle.format.specs.Refusal.{number, Given, Clear}
 use Rattle.format.specs.Image.{first_set}
 use Rattle.format.specs.Table.{operands, trees}
-use Rattle.format.specs.Question.{setup_conditions, question_conditions}
+use Rattle.format.specs.Question.{question_conditions}
 use Rattle.format.specs.Example.{example_image, example_table}
 use Rattle.format.specs.declared.Refusal.{Refusal}
 use Rattle.format.specs.declared.Refusal.TheVariants as R

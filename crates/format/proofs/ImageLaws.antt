@@ -1,20 +1,17 @@
 -- What the proofs of the image's reader cite: the number of a predicate's first set, a set past the image's end, arity bytes.
 -- Over plain values; nothing here names a place of the code.
-use Prim.Native.Nat.{ℕ, zero, suc, ◌+◌, ◌-◌, ◌*◌, ◌/◌, ◌^◌, ◌≤◌, ◌<◌, min}
+use Prim.Native.Nat.{ℕ, zero, suc, ◌+◌, ◌-◌, ◌^◌, ◌≤◌, ◌<◌, min}
 use native.Mathlib.Omega.{arith}
 use native.Mathlib.Numerals.{add-one}
-use mathlib.Core.Path.{◌≡◌, refl, sym, ap, ◌∙◌, subst}
+use mathlib.Core.Path.{◌≡◌, refl, ap, ◌∙◌}
 use mathlib.Core.Bool.{Bool, true, false}
 use mathlib.Core.List.{List}
 use mathlib.Core.Logic.{◌⊎◌, inl, inr, ⊎_elim, ◌↔◌}
 use native.Mathlib.Nat.{pos_of_ne-zero}
 use lib.Bits.{bit_and}
-use lib.Count.{ones}
-use lib.ListN.{length}
-use lib.Dec.{eqb, leb}
-use borrow.Author.Tests.{eq-eqb, ne_eqb, lt-leb}
+use lib.Dec.{eqb}
 use Rattle.model.specs.Formula.{pick}
-use Rattle.sets.specs.Number.{stored, width}
+use Rattle.sets.specs.Number.{width}
 use Rattle.sets.specs.Member.{Has, Within}
 use Rattle.sets.proofs.LawsMember.{has?, side?, has-minus, has-below, empty-zero}
 use Rattle.sets.proofs.LawsCount.{ones-some, ones-zero}

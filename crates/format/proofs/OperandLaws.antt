@@ -1,12 +1,12 @@
 -- The flags of the "operand twice" test, over rows of operands: what one operand more does to them, and what they say at the end.
-use Prim.Native.Nat.{ℕ, zero, suc, ◌+◌, ◌≤◌, ◌<◌}
+use Prim.Native.Nat.{ℕ, ◌+◌, ◌<◌}
 use native.Mathlib.Omega.{arith}
 use native.Mathlib.Numerals.{add-one}
 use mathlib.Core.Path.{◌≡◌, refl, sym, ap, ◌∙◌, subst, subst⁻¹}
 use mathlib.Core.Bool.{Bool, true, false}
 use mathlib.Core.List.{List, [], ◌∷◌, ◌++◌, append_assoc, append-nil}
-use mathlib.Core.Logic.{◌⊎◌, inl, inr, ⊎_elim, ◌↔◌}
-use lib.ListN.{length, get_or, set, replicate, length-append, length-set, length-replicate, get_or-replicate, get_or-append}
+use mathlib.Core.Logic.{◌⊎◌, inl, inr, ⊎_elim}
+use lib.ListN.{length, get_or, set, replicate, length-append, length-set, get_or-replicate, get_or-append}
 use lib.Seq.{get_or-append_seam, get_or-set_same, get_or-set_other}
 use Rattle.model.specs.Decides.{Decides}
 use Rattle.sets.proofs.LawsMember.{side?, same?}

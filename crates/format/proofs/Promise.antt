@@ -6,10 +6,10 @@ use mathlib.Core.Bool.{Bool, true, false}
 use mathlib.Core.List.{List}
 use mathlib.Core.Logic.{◌↔◌}
 use Rattle.model.specs.Decides.{Decides}
-use Rattle.format.specs.Refusal.{Given, Clear}
+use Rattle.format.specs.Refusal.{Given}
 use Rattle.format.specs.Image.{image_conditions}
 use Rattle.format.specs.Question.{setup_conditions, question_conditions}
-use Rattle.format.specs.Answers.{ImageAnswer, TableAnswer, QuestionAnswer, ImageRead, TableRead, QuestionRead}
+use Rattle.format.specs.Answers.{ImageAnswer, TableAnswer, QuestionAnswer}
 use Rattle.format.specs.declared.Refusal.{Refusal}
 use Rattle.format.specs.declared.image.Answer.{Answer as OfImage}
 use Rattle.format.specs.declared.image.Answer.TheVariants as Im

@@ -1,25 +1,25 @@
 -- What it means that nothing is refused: the sizes are in their ranges and no set has a stage above them, the graph is readable, each
 -- formula names stages of it only and nests at most 4 modalities, and no variable but 0 is free in the goal.
-use Prim.Native.Nat.{ℕ, zero, suc, ◌+◌, ◌≤◌, ◌<◌}
+use Prim.Native.Nat.{ℕ, zero, suc, ◌≤◌, ◌<◌}
 use native.Mathlib.Omega.{arith}
 use native.Mathlib.Nat.{pos_of_ne-zero}
-use mathlib.Core.Path.{◌≡◌, refl, sym, subst, ap, ◌∙◌}
+use mathlib.Core.Path.{◌≡◌, refl}
 use mathlib.Core.Bool.{Bool, true, false, ◌&&◌}
 use mathlib.Core.List.{List}
-use mathlib.Core.Logic.{◌⊎◌, inl, inr, ⊎_elim}
+use mathlib.Core.Logic.{⊎_elim}
 use lib.Dec.{T, ltb, ltb→lt, lt→ltb}
-use Rattle.model.specs.Graph.{Graph, Next, Readable}
+use Rattle.model.specs.Graph.{Next, Readable}
 use Rattle.model.specs.Formula.{Free, Below, nesting}
 use Rattle.sets.specs.Member.{Has}
 use Rattle.sets.proofs.LawsMember.{side?, has-test, empty-zero}
 use Rattle.sets.proofs.LawsCount.{ones-some, ones-zero}
 use Rattle.format.specs.Refusal.{Clear}
-use Rattle.format.specs.Image.{stages_of, predicates_of, arity_of, sets_for, first_set, sets_in, set_of, member, graph_of, SizesFit, LengthFits, image_conditions}
-use Rattle.format.specs.Table.{entries_of, record_at, tree_of, Ruled, EntriesFit, table_conditions, BadRecord, NestedTooDeep}
+use Rattle.format.specs.Image.{stages_of, predicates_of, sets_in, set_of, member, graph_of, SizesFit, image_conditions}
+use Rattle.format.specs.Table.{entries_of, record_at, tree_of, Ruled, EntriesFit, table_conditions}
 use Rattle.format.specs.Question.{setup_conditions, goal_conditions, question_conditions}
 use Rattle.format.proofs.ImageLaws.{first-least}
 use Rattle.format.proofs.RefusalLaws.{clear_first, clear_later}
-use Rattle.format.proofs.Decision.{sizes-fit?, length-fits?, entries-fit?, ruled?, stable}
+use Rattle.format.proofs.Decision.{sizes-fit?, entries-fit?, ruled?, stable}
 use Rattle.format.proofs.RuledLaws.{ruled-below, ruled-free}
 
 -- The parts of a question that is not refused.

@@ -1,11 +1,10 @@
 -- From what the readers found to what they answer: what the operands' test needs of a table without a bad record, and shapes and
 -- refusals of image, table and question together.
-use Prim.Native.Nat.{ℕ, zero, suc, ◌≤◌, ◌<◌, ◌%◌}
+use Prim.Native.Nat.{ℕ, zero, suc, ◌<◌, ◌%◌}
 use native.Mathlib.Omega.{arith}
-use mathlib.Core.Path.{◌≡◌, refl, sym, ap, ◌∙◌, subst}
-use mathlib.Core.List.{List, [], ◌∷◌, ◌++◌}
-use lib.ListN.{length, get_or}
-use Rattle.format.specs.Table.{entries_of, record_at, kind_of, sort_of, RuledAs, Ruled, operands_as, operands_in, EntriesFit, BadRecord}
+use mathlib.Core.Path.{◌≡◌, ap}
+use mathlib.Core.List.{List, [], ◌∷◌}
+use Rattle.format.specs.Table.{entries_of, record_at, kind_of, sort_of, RuledAs, Ruled, operands_as, EntriesFit, BadRecord}
 use Rattle.format.specs.Reading.{OperandsSmall, AllSmall}
 use Rattle.format.specs.declared.record.Record.{Record}
 use Rattle.format.specs.declared.record.Sort.{Sort}

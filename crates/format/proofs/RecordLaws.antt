@@ -1,5 +1,5 @@
 -- What the proofs of the records' rules cite: what a term is not, an entry past the table's end, and kinds above 11.
-use Prim.Native.Nat.{ℕ, zero, suc, ◌+◌, ◌*◌, ◌/◌, ◌≤◌, ◌<◌}
+use Prim.Native.Nat.{ℕ, suc, ◌+◌, ◌*◌, ◌/◌, ◌≤◌, ◌<◌}
 use native.Mathlib.Omega.{arith}
 use mathlib.Core.Path.{◌≡◌, sym, subst, subst⁻¹}
 use mathlib.Core.Bool.{Bool}

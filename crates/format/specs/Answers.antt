@@ -1,8 +1,8 @@
 -- What the readers answer: the shape of what they read where no condition of document 01 holds, or else the refusal that is given.
 use Rattle.std.specs.Prelude.{ℕ, ◌≡◌, List}
-use Rattle.format.specs.Refusal.{Condition, Given, Clear}
+use Rattle.format.specs.Refusal.{Given, Clear}
 use Rattle.format.specs.Image.{stages_of, predicates_of, sets_in, image_conditions}
-use Rattle.format.specs.Table.{entries_of, table_conditions}
+use Rattle.format.specs.Table.{entries_of}
 use Rattle.format.specs.Question.{setup_conditions, question_conditions}
 use Rattle.format.specs.declared.image.Shape.{Shape as ImageShape}
 use Rattle.format.specs.declared.image.Answer.{Answer as OfImage}

@@ -1,5 +1,5 @@
 -- Document 01, "Stage image": the fields, the graph that they give, and the conditions of the refusals 1 to 5.
-use Rattle.std.specs.Prelude.{ℕ, zero, suc, ◌+◌, ◌*◌, ◌≤◌, ◌<◌, ◌≡◌, Bool, true, false, ◌&&◌, List, [], ◌∷◌, ◌⊎◌, length, eqb, ltb}
+use Rattle.std.specs.Prelude.{ℕ, zero, suc, ◌+◌, ◌*◌, ◌≤◌, ◌<◌, ◌≡◌, Bool, ◌&&◌, List, [], ◌∷◌, ◌⊎◌, length, eqb, ltb}
 use Rattle.model.specs.Formula.{pick}
 use Rattle.model.specs.Graph.{Graph}
 use Rattle.sets.specs.Member.{bit, Has, Empty}

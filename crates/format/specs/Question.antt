@@ -1,5 +1,5 @@
 -- Document 01, "Goal": an entry number, and a start stage that is the value of variable 0; and the conditions of the refusals 11 to 13.
-use Rattle.std.specs.Prelude.{ℕ, ◌≤◌, ◌<◌, List, [], ◌∷◌, ◌++◌}
+use Rattle.std.specs.Prelude.{ℕ, ◌≤◌, List, [], ◌∷◌, ◌++◌}
 use Rattle.model.specs.Formula.{Free}
 use Rattle.format.specs.Image.{stages_of, image_conditions}
 use Rattle.format.specs.Table.{entries_of, tree_of, table_conditions}

@@ -1,5 +1,5 @@
 -- What the parts of the readers say, in the words of `Image`, `Table` and the model: nothing that document 01 states is defined here.
-use Rattle.std.specs.Prelude.{ℕ, ◌+◌, ◌≤◌, ◌<◌, ◌≡◌, ◌↔◌, ◌⊎◌, List, [], ◌∷◌, ◌++◌, length, get_or}
+use Rattle.std.specs.Prelude.{ℕ, ◌+◌, ◌≤◌, ◌<◌, ◌≡◌, ◌↔◌, ◌⊎◌, List, ◌++◌, length, get_or}
 use Rattle.model.specs.Decides.{Decides}
 use Rattle.model.specs.Formula.{Formula, Atom, Term, Names, FreeInAtom, Free, nesting}
 use Rattle.sets.specs.Member.{Has, Empty}

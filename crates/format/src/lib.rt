@@ -1,5 +1,6 @@
 // The stored forms: reading a stage image, a formula table, and a goal with its start, to their shape or to one of the refusals 1 to 13.
 #![tactic(auto)]
+
 pub mod image;
 mod nesting;
 mod operands;

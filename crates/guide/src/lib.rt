@@ -10,6 +10,7 @@
 // All require what a question that is not refused has (`Ready`), as the verdict's `where_holds` does, and a row with room for a stage for each stage,
 // which for EU must lead nowhere yet.
 #![tactic(auto)]
+
 pub mod sides;
 mod toward;
 

@@ -17,7 +17,7 @@ use lib.ListN.{length, get_or, set, get_or-eq_default}
 use lib.Seq.{get_or-set_same, get_or-set_other}
 use lib.Dec.{eqb}
 use borrow.Author.Tests.{eq-eqb, ne_eqb}
-use Rattle.model.specs.Formula.{stage, variable, pick, value, Names}
+use Rattle.model.specs.Formula.{pick, value, Names}
 use Rattle.model.specs.Formula.{Env as Environment}
 use Rattle.sets.proofs.LawsMember.{same?}
 use Rattle.format.specs.Table.{term_of}

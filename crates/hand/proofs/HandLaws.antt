@@ -5,24 +5,21 @@
 --     other-side                         on side 1 the kind is the dual's
 --     atom-two-is, atom-one-is           an atom, as membership in one of its predicate's sets
 --     successors-in, leads-is            the successors of a stage
-use Prim.Native.Nat.{ℕ, zero, suc, ◌+◌, ◌≤◌, ◌<◌}
-use native.Mathlib.Omega.{arith}
-use mathlib.Core.Path.{◌≡◌, refl, sym, ap, ap₂, subst, ◌∙◌}
+use Prim.Native.Nat.{ℕ, zero, suc, ◌+◌, ◌<◌}
+use mathlib.Core.Path.{◌≡◌, refl, sym, ap, ap₂, ◌∙◌}
 use mathlib.Core.Bool.{Bool, true, false, ◌&&◌}
 use mathlib.Core.List.{List}
-use borrow.Author.Tests.{eq-eqb, ne_eqb, lt-ltb, le-ltb}
+use borrow.Author.Tests.{eq-eqb, ne_eqb, lt-ltb}
 use Rattle.model.specs.Decides.{Decides}
 use Rattle.model.specs.Formula.{Env, value, atom}
 use Rattle.sets.specs.Member.{bit, Has}
-use Rattle.sets.proofs.LawsBit.{bit-zero}
 use Rattle.format.specs.Image.{stages_of, arity_of, first_set, set_of, member, graph_of}
-use Rattle.format.specs.Table.{kind_of, sort_of, term_of, atom_of}
+use Rattle.format.specs.Table.{term_of}
 use Rattle.format.specs.declared.record.Record.{Record}
 use Rattle.format.specs.declared.record.Kind.{Kind}
-use Rattle.format.specs.declared.record.Sort.{Sort}
 use Rattle.format.proofs.TreeLaws.{atom-one, atom-two}
 use Rattle.hand.specs.Side.{dual_kind, kind_on}
-use Rattle.hand.specs.Hand.{start_as, start_in, atom_in, SuccessorsOf}
+use Rattle.hand.specs.Hand.{atom_in, SuccessorsOf}
 
 -- What a test of membership gives is `member`.
 pub member_is : (s k : ℕ) (r : Bool) → Decides r (Has s k) → r ≡ member s k

@@ -1,9 +1,7 @@
 -- Two results that meet the contract of a function of this crate are one. Where a contract is an equation there is nothing to show.
 use Prim.Native.Nat.{ℕ}
 use mathlib.Core.Path.{◌≡◌, sym, ap, ◌∙◌}
-use mathlib.Core.List.{List}
 use mathlib.Core.Logic.{⊎_elim}
-use borrow.Author.Tests.{eqb-true}
 use lib.ListN.{length}
 use lib.Seq.{ext_get_or}
 use Rattle.model.specs.Formula.{Env as Environment}

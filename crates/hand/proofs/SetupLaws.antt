@@ -8,7 +8,7 @@
 -- Assumes nothing.
 use Prim.Native.Nat.{ℕ, zero, suc, ◌+◌, ◌*◌, ◌≤◌, ◌<◌}
 use native.Mathlib.Omega.{arith}
-use mathlib.Core.Path.{◌≡◌, refl, sym, ap, ◌∙◌, subst}
+use mathlib.Core.Path.{◌≡◌, refl, sym, ◌∙◌, subst}
 use mathlib.Core.List.{List}
 use mathlib.Core.Logic.{⊎_elim}
 use lib.Dec.{eqb}
@@ -18,7 +18,7 @@ use Rattle.sets.specs.Row.{words, room, held, Put}
 use Rattle.sets.proofs.LawsMember.{same?, side?}
 use Rattle.sets.proofs.LawsBytes.{stored-out}
 use Rattle.sets.proofs.LawsRow.{room-enough, held-past}
-use Rattle.format.specs.Image.{SizesFit, LengthFits, stages_of, predicates_of, arity_of, first_set, sets_for, sets_in, set_of}
+use Rattle.format.specs.Image.{SizesFit, LengthFits, stages_of, predicates_of, arity_of, first_set, sets_in, set_of}
 use Rattle.format.proofs.ImageLaws.{pick-le}
 use Rattle.hand.specs.Hand.{SuccessorsOf}
 use Rattle.hand.specs.Setup.{Decoded, AllSets}

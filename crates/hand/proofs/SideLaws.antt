@@ -1,6 +1,5 @@
 -- A record's formula on a side is the formula of the record with its kind and its operands on that side; and kinds by their numbers.
 use Prim.Native.Nat.{ℕ, zero, suc}
-use native.Mathlib.Omega.{arith}
 use mathlib.Core.Path.{◌≡◌, refl, sym, ap, ◌∙◌}
 use mathlib.Core.List.{List}
 use Rattle.model.specs.Formula.{Formula}
@@ -9,7 +8,7 @@ use Rattle.format.specs.declared.record.Record.{Record}
 use Rattle.format.specs.declared.record.Kind.{Kind}
 use Rattle.format.specs.declared.record.Kind.TheVariants as K
 use Rattle.format.proofs.TreeLaws.{tree-made}
-use Rattle.hand.specs.Side.{sided, dual_kind, kind_on, number_of}
+use Rattle.hand.specs.Side.{sided, kind_on, number_of}
 use Rattle.hand.specs.Hand.{start_as}
 
 module _ (image : List ℕ) (tree : ℕ → Formula) (r : Record) where

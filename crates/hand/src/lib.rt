@@ -1,6 +1,7 @@
 // The formula in hand: the four variables as one value, the terms and the atom that are read in them, the kind that an entry's formula has on a side, and
 // what is prepared once of a setup (`setup`). The search and the checker both go by these.
 #![tactic(auto)]
+
 pub mod env;
 pub mod setup;
 

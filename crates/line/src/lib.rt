@@ -1,5 +1,6 @@
 // What stands below and beside the writing of certificates in the program zseq: its input taken apart, and the line that it prints.
 #![tactic(auto)]
+
 pub mod frame;
 mod text;
 

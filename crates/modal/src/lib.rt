@@ -9,6 +9,7 @@
 //
 // Every function is total. A result has no stage at or above n, and it is right for any graph whose successors the row holds (`Computes`).
 #![tactic(auto)]
+
 ghost use Rattle.std.specs.Prelude.{◌≡◌};
 ghost use Rattle.model.specs.Decides.{Decides};
 ghost use Rattle.sets.specs.Number.{number};

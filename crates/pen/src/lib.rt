@@ -1,5 +1,6 @@
 // Going through a certificate: its header and its steps, put into a lent buffer byte by byte, or only counted.
 #![tactic(auto)]
+
 mod bytes;
 mod steps;
 

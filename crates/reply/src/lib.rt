@@ -1,6 +1,7 @@
 // One input of the program zseq to the one line that it prints: the input is taken apart, the certificate of its question is written, and the line says
 // which side it proves, how long it is and its bytes, or which refusal was given.
 #![tactic(auto)]
+
 ghost use Rattle.line.specs.Framing.{PartsOf};
 ghost use Rattle.line.specs.Line.{Printed};
 ghost use Rattle.reply.specs.Reply.{Replied};

@@ -2,6 +2,7 @@
 // one. specs/ says what the steps of a whole proof are and how they are read; a checker goes by `read_head`, by cases on `Rule`, and answers
 // how far it came.
 #![tactic(auto)]
+
 ghost use Rattle.std.specs.Prelude.{◌≡◌};
 ghost use Rattle.rules.specs.Table.{rule_of, kind_for, takes, chosen_of};
 ghost use Rattle.rules.specs.Head.{head_of};

@@ -4,6 +4,7 @@
 // The contracts speak of the set's number (`number`), by the library's operations on numbers; `specs/Member.antt` says what membership
 // is, and `proofs/` has the laws of sets, over any width.
 #![tactic(auto)]
+
 pub mod row;
 pub mod stored;
 

@@ -9,12 +9,12 @@
 --     set-once                                 one result of the public functions below the verdict
 --
 -- Assumes nothing.
-use Prim.Native.Nat.{ℕ, ◌≤◌, ◌<◌}
+use Prim.Native.Nat.{ℕ}
 use native.Mathlib.Omega.{arith}
 use mathlib.Core.Path.{◌≡◌, refl, sym, ap, ◌∙◌, subst}
 use mathlib.Core.List.{List}
 use mathlib.Core.Logic.Iff
-use mathlib.Core.Logic.{◌↔◌, ⊎_elim}
+use mathlib.Core.Logic.{◌↔◌}
 use Rattle.model.specs.Formula.{Formula, Env, dual, Free}
 use Rattle.logic.specs.Meaning.{Holds}
 use Rattle.logic.specs.Test.{Stages}

@@ -8,8 +8,6 @@ use mathlib.Core.Path.{◌≡◌, refl, sym, ap, ap₂, ◌∙◌, subst}
 use mathlib.Core.Bool.{Bool, true, false, beq}
 use mathlib.Core.List.{List}
 use lib.Dec.{T}
-use Rattle.model.specs.Formula.{atom}
-use Rattle.logic.specs.Test.{test}
 use Rattle.format.specs.Image.{graph_of}
 use Rattle.format.specs.Table.{kind_of}
 use Rattle.format.specs.declared.record.Record.{Record}

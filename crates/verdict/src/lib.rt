@@ -13,6 +13,7 @@
 // `evaluation::where_holds`, `evaluation::modal_set` and `truth::holds` require what a question that is not refused has (`Ready`); every other
 // public function takes any input.
 #![tactic(auto)]
+
 pub mod answer;
 mod atoms;
 mod dependence;

@@ -4,6 +4,7 @@
 // no byte of the buffer is changed before it is known that all have room, and a certificate of any length is refused at once where there is none. The crate
 // `pen` goes through it.
 #![tactic(auto)]
+
 pub mod answer;
 
 ghost use Rattle.std.specs.Prelude.{◌≡◌};

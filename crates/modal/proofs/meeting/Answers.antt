@@ -30,8 +30,8 @@ loop-wanted-preserved c =
     let met = c.is_empty-in-loop-wanted in
     let turn : Turn _ _ _ = record { some = refuted _ tested.ensures (test); lowest = lowest; others = c.rest-left.ensures } in
     elim c.if-not-is_empty.branch [
-      then-not-is_empty w ↦ walk-take _ _ inv turn load common (refuted _ met.ensures w.if-not-is_empty.true) (ap number w.found-is ∙ w.with-found.ensures)
-    | else-not-is_empty w ↦ walk-skip _ _ inv turn load common (decided _ met.ensures w.if-not-is_empty.false) (ap number w.found-is)
+      | then-not-is_empty w ↦ walk-take _ _ inv turn load common (refuted _ met.ensures w.if-not-is_empty.true) (ap number w.found-is ∙ w.with-found.ensures)
+      | else-not-is_empty w ↦ walk-skip _ _ inv turn load common (decided _ met.ensures w.if-not-is_empty.false) (ap number w.found-is)
     ]
 
 pub returns : goal.returns

@@ -1,7 +1,6 @@
 -- The readers of steps, `checker::steps`, meet their contracts: one proof for the whole cycle of calls.
 use native.Mathlib.Omega.{arith}
 use mathlib.Core.Path.{refl}
-use borrow.Author.Rules.{rules}
 use Rattle.sets.proofs.LawsFits.{number_lt}
 use Rattle.sets.proofs.LawsWalk.{walk-falls}
 use Rattle.checker.proofs.EachLaws.{turn-of}
@@ -33,6 +32,7 @@ use Rattle.checker.proofs.WalkLaws.{grows, along-on}
 use Rattle.checker.proofs.ArmLaws.{room, a-is, start_is, from-its-start, a-bound, handed, walking, onto, stage-room}
 use Rattle.checker.proofs.steps.+at_each_formula_go_on_walk.Goals as goal
 use Rattle.checker.proofs.steps.+at_each_formula_go_on_walk.Goals.{walk-in-AfLater+else-has-2, walk-in-ArOn+else-has-5}
+
 -- `at_each` meets its contract: a turn of the loop reads a at the lowest successor that is left.
 -- The readers of steps: the measure of each, what each knows of the others, and what holds at each turn of their loops. The measure counts the entry, and
 -- along a walk the stages that are not on it; the small constants order the readers of one step.
@@ -428,13 +428,13 @@ pub walk-loop-env-init : goal.walk-loop-env-init
 walk-loop-env-init t c =
     let begun = going_start _ _ _ _ _ _ _ _ (number_lt _ _ c.set-left.type_inv) c.index-k.ensures c.set-left.ensures in
     elim c.match-rule.branch [
-      walk-in-AfLater+else-has-2 w ↦ begun (rest-as _ _ _ _ _ _ _ _ (record {
+      | walk-in-AfLater+else-has-2 w ↦ begun (rest-as _ _ _ _ _ _ _ _ (record {
         off = off-walk _ _ (off-holds (number c.args.met) c.index-k.ensures w.has-in-AfLater.result w.has-in-AfLater.ensures w.if-has-2.false);
         is = λ {image} {table} {side} h.
             let arm = arm-of c.args.steps.now h.hand c.args.at c.field.ensures c.read_head.ensures c.in-Step.is w.in-AfLater.is in
             later-rest arm _ _ (off-holds (number c.args.met) c.index-k.ensures w.has-in-AfLater.result w.has-in-AfLater.ensures w.if-has-2.false) _;
       }) w.from-is w.fault-is)
-    | walk-in-ArOn+else-has-5 w ↦ begun (rest-as _ _ _ _ _ _ _ _ (record {
+      | walk-in-ArOn+else-has-5 w ↦ begun (rest-as _ _ _ _ _ _ _ _ (record {
         off = off-walk _ _ (off-holds (number c.args.met) c.index-k.ensures w.has-in-ArOn.result w.has-in-ArOn.ensures w.if-has-5.false);
         is = λ {image} {table} {side} h.
             let arm = arm-of c.args.steps.now h.hand c.args.at c.field.ensures c.read_head.ensures c.in-Step.is w.in-ArOn.is in

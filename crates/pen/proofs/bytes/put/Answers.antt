@@ -10,6 +10,6 @@ pub returns : goal.returns
 returns c =
     let room = c.if-out-at.false in
     elim c.if-writing.branch [
-      then-writing w ↦ wrote-stored room w.if-writing.true w.out-is
-    | else-writing w ↦ wrote-counted room w.if-writing.false w.out-is
+      | then-writing w ↦ wrote-stored room w.if-writing.true w.out-is
+      | else-writing w ↦ wrote-counted room w.if-writing.false w.out-is
     ]

@@ -56,6 +56,7 @@ use Rattle.pen.proofs.WriterLaws.{start_is, start-below, ready_of, under, code_w
 use Rattle.pen.proofs.StepLaws.{choice-of}
 use Rattle.pen.proofs.AlongLaws.{ex-holds}
 use Rattle.pen.proofs.steps.+af_af_from_af_step_ar_ar_from_ax_eg_eu_ex_formula_or.Goals as goal
+
 -- `ar_from` and `ar` meet their contracts: a walk of AR.
 -- `eg` and `eu` meet their contracts: walks that go on at a chosen successor, in a loop.
 -- The writers of steps: the measure of each, and what each knows of the others. The measure counts the entry, and along a walk the fuel; the small

@@ -7,7 +7,6 @@ use Rattle.hand.specs.Environment.{env_of}
 use Rattle.pen.proofs.EachLaws.{Turns}
 use Rattle.pen.specs.Steps.{a_of, af_steps, Noted}
 use Prim.Native.Nat.{◌-◌}
-use Rattle.logic.specs.Test as Test
 use Rattle.rules.specs.Kind.{Kind}
 use Rattle.checker.specs.Reading.{walk_of}
 use Rattle.pen.specs.Steps.{a_of, two_steps}
@@ -15,7 +14,6 @@ use Rattle.format.specs.Image.{graph_of}
 use Rattle.pen.specs.Steps.{a_of}
 use Rattle.pen.proofs.StepLaws.{EgGoing, EuGoing}
 use Prim.Native.Nat.{◌+◌, ◌*◌}
-use Rattle.format.specs.declared.record.Kind.TheVariants as K
 use Rattle.pen.specs.Steps.{a_of, start_of}
 use Rattle.pen.proofs.steps.+af_af_from_af_step_ar_ar_from_ax_eg_eu_ex_formula_or.Given as goal
 

@@ -18,9 +18,9 @@ loop-s-preserved c =
     c.set.ensures c.has.ensures in (
       search rules,
       elim c.if-has.branch [
-            then-has w ↦ collects-take inv.1 (omega arith) (sym own ∙ w.if-has.true) (ap number w.found-is ∙ w.with-found.ensures)
-          | else-has w ↦ collects-skip inv.1 (sym own ∙ w.if-has.false) (ap number w.found-is)
-          ],
+        | then-has w ↦ collects-take inv.1 (omega arith) (sym own ∙ w.if-has.true) (ap number w.found-is ∙ w.with-found.ensures)
+        | else-has w ↦ collects-skip inv.1 (sym own ∙ w.if-has.false) (ap number w.found-is)
+      ],
     )
 
 pub returns : goal.returns

@@ -73,9 +73,9 @@ where_each-loop-s-preserved t c =
     c.has.ensures in (
       search rules,
       elim c.if-has.branch [
-            where_each-then-has w ↦ collects-take inv.1 (omega (arith, ready.row.room)) (sym own ∙ w.if-has.true) (ap number w.found-is ∙ w.with-found.ensures)
-          | where_each-else-has w ↦ collects-skip inv.1 (sym own ∙ w.if-has.false) (ap number w.found-is)
-          ],
+        | where_each-then-has w ↦ collects-take inv.1 (omega (arith, ready.row.room)) (sym own ∙ w.if-has.true) (ap number w.found-is ∙ w.with-found.ensures)
+        | where_each-else-has w ↦ collects-skip inv.1 (sym own ∙ w.if-has.false) (ap number w.found-is)
+      ],
     )
 
 pub where_each-returns : goal.where_each-returns
