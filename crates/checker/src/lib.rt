@@ -87,8 +87,7 @@ fn steps_of(image: &[u8], table: &[u8], certificate: &[u8], q: Question) -> Chec
 }
 
 // The check for callers in C, as one number: `answer::code` says which.
-#[unsafe(no_mangle)]
-pub extern "C" fn zseq_check(
+pub fn zseq_check(
     image: &[u8],
     table: &[u8],
     certificate: &[u8],

@@ -73,8 +73,7 @@ fn listed(image: &[u8], n: usize) -> Report
 
 // The report for callers in C. Its number comes back: a refusal's own, or 128 and the number of dead ends. The set is stored at the front of the
 // lent buffer; one that has no room for it is left as it is, and so is every buffer where the report is a refusal.
-#[unsafe(no_mangle)]
-pub extern "C" fn zseq_dead_ends(image: &[u8], set: &mut [u8]) -> u64
+pub fn zseq_dead_ends(image: &[u8], set: &mut [u8]) -> u64
     ensures { CodedReport image.now set.old result set.new }
 {
     match report(image) {

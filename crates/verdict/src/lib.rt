@@ -65,8 +65,7 @@ fn goal_holds(image: &[u8], table: &[u8], q: Question) -> bool
 }
 
 // The verdict for callers in C, as one number: a refusal's own, 128 for yes, 129 for no.
-#[unsafe(no_mangle)]
-pub extern "C" fn zseq_verdict(image: &[u8], table: &[u8], goal: u64, start: u64) -> u64
+pub fn zseq_verdict(image: &[u8], table: &[u8], goal: u64, start: u64) -> u64
     ensures { CodedAnswer image.now table.now goal start result }
 {
     answer::code(verdict(image, table, goal, start))

@@ -76,8 +76,7 @@ fn side_of(image: &[u8], table: &[u8], next: &[u64], n: usize, goal: u8, env: En
 
 // The writing for callers in C, as one number: `answer::code` says which. The certificate's length goes into a lent number, which a refusal leaves as
 // it is.
-#[unsafe(no_mangle)]
-pub extern "C" fn zseq_write(
+pub fn zseq_write(
     image: &[u8],
     table: &[u8],
     goal: u64,

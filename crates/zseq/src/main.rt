@@ -1,14 +1,35 @@
 // The program zseq: a question on standard input, one line on standard output.
 //
 // All that it says is said of `reply::reply`, on slices. An input may have `line::LIMIT` bytes, and one byte more is read, so that a longer one is seen to
-// be too long; of that nothing further is read. A read that fails ends the input, as its end does. Where the line cannot be written nothing more is done:
-// a program has no exit status of its own choosing here.
+// be too long; of that nothing further is read. A read that fails ends the input, as its end does. Where the line cannot be written nothing more is done,
+// and the exit status is 0 all the same.
 #![tactic(auto)]
-fn main() {
+
+ghost use Rattle.std.specs.Prelude.{◌≤◌, length, take};
+ghost use Rattle.std.specs.Io.KnownBytes.{Consumes};
+
+use std::io::{Read, Write};
+
+fn main(rt: HostRuntime) {
     let mut input = [0u8; line::LIMIT + 1];
-    let n = io::read_full(libc::STDIN_FILENO, &mut input);
+    let n = read_full(&mut rt.stdin(), &mut input);
     let mut certificate = [0u8; line::CERTIFICATE];
     let mut out = [0u8; line::LONGEST];
     let length = reply::reply(&input[..n], &mut certificate, &mut out);
-    io::write_all(libc::STDOUT_FILENO, &out[..length]);
+    let _ = rt.stdout().write_all(&out[..length]);
+}
+
+// Reads until the buffer is full, the input ends or a read fails. What was read stands at the buffer's front, and its length comes back.
+fn read_full<R: Read>(from: &mut R, buffer: &mut [u8]) -> usize
+    ensures inside { result ≤ length buffer.new }
+    ensures bytes { Consumes (R.remaining from.old) (R.remaining from.new) (take result buffer.new) }
+{
+    let mut at = 0;
+    while at < buffer.len() {
+        match from.read(&mut buffer[at..]) {
+            Ok(0) | Err(_) => break,
+            Ok(n) => at += n,
+        }
+    }
+    at
 }
