@@ -87,13 +87,7 @@ fn steps_of(image: &[u8], table: &[u8], certificate: &[u8], q: Question) -> Chec
 }
 
 // The check for callers in C, as one number: `answer::code` says which.
-pub fn zseq_check(
-    image: &[u8],
-    table: &[u8],
-    certificate: &[u8],
-    goal: u64,
-    start: u64,
-) -> u64
+pub fn zseq_check(image: &[u8], table: &[u8], certificate: &[u8], goal: u64, start: u64) -> u64
     ensures { CodedAnswer image.now table.now certificate.now goal start result }
 {
     answer::code(check(image, table, certificate, goal, start))
