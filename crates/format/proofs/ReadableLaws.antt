@@ -88,7 +88,8 @@ ruled image table clear e h =
     stable (ruled? image e (record_at table e)) (λ f. (of-table image table clear).1.1.0 (record { entry = e; below = h; broken = f }))
 
 -- Each formula of the table names stages of the graph only, and nests at most 4 modalities.
-pub tree-below : (image table : List ℕ) → Clear (setup_conditions image table) → (e : ℕ) → e < entries_of table → Below (stages_of image) (tree_of image table e)
+pub tree-below : (image table : List ℕ) → Clear (setup_conditions image table) → (e : ℕ) → e < entries_of table
+    → Below (stages_of image) (tree_of image table e)
 tree-below image table clear e h =
     ruled-below image table (entries_of table) (sizes image (of_image image table clear)).stages (ruled image table clear) e h
 

@@ -81,7 +81,8 @@ module _ (image table : List ℕ) (side : ℕ) (env : Slots) {o o' : ℕ} (o_is 
     -- And that of EU.
     pub nearest-of : {p p' y y' n n' s : ℕ} {before after : List ℕ} → p' ≡ p → y' ≡ y → n' ≡ n → s < n
         → Filled n' (nearest (graph_of image) (held_on image table side o' env v') (held_on image table side p' env y')) before after
-        → get_or after s 0 ≡ nearest (graph_of image) (bound_entry image table side o v (env_of env)).holds (bound_entry image table side p y (env_of env)).holds s
+        → get_or after s 0 ≡ nearest (graph_of image) (bound_entry image table side o v (env_of env)).holds
+        (bound_entry image table side p y (env_of env)).holds s
     nearest-of {s = s} p-is y-is n-is h f =
         f.each s (omega arith)
         ∙ ap₂ (λ (x z : Stages). nearest (graph_of image) x z s) held-is (ap₂ (λ (i j : ℕ). held_on image table side i env j) p-is y-is)
@@ -140,7 +141,8 @@ noted_more image table side e env {lens} s {p} {q} n wrote fits =
 -- A walk of EG that holds.
 pub record EgGoing (image table : List ℕ) (side e : ℕ) (env : Slots) (w : Bool) (place : ℕ) (before : List ℕ) (walk s left : ℕ) (out : List ℕ) (here : ℕ)
     : Type 0 where
-  pub going : Going w (entry_steps image table side e (env_of env)) (one_steps image table side Kind.EG e (env_of env) left (walk_of walk) s) place before out here
+  pub going : Going w (entry_steps image table side e (env_of env))
+      (one_steps image table side Kind.EG e (env_of env) left (walk_of walk) s) place before out here
   pub below : s < stages_of image
   pub holds : T (eg (graph_of image) (a_of image table side e (env_of env)).holds s)
 

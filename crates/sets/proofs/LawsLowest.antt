@@ -88,7 +88,13 @@ rest-is (suc w) s n h = go (s % 2) (count_trailing_zeros w (s / 2)) refl (λ m. 
 -- its digit is gone
 pub rest-lowest : (w s : ℕ) → s < 2 ^ w → bit (bit_and s (s - 1)) (count_trailing_zeros w s) ≡ 0
 rest-lowest w s h =
-    ⊎_elim (λ e. omega (arith, bit-and s (s - 1) (count_trailing_zeros w s), ap (λ (x : ℕ). bit x (count_trailing_zeros w s)) e, bit-zero (count_trailing_zeros w s)))
+    ⊎_elim (λ e. omega (
+      arith,
+      bit-and s (s - 1) (count_trailing_zeros w s),
+      ap (λ (x : ℕ). bit x (count_trailing_zeros w s)) e,
+      bit-zero
+          (count_trailing_zeros w s),
+    ))
     (λ l. ap (λ (x : ℕ). bit x (count_trailing_zeros w s)) (rest-is w s (omega arith) h)
     ∙ omega (arith, bit-minus s (2 ^ count_trailing_zeros w s) (count_trailing_zeros w s), bit-power-same (count_trailing_zeros w s)))
     (eq-zero-or-pos s)

@@ -38,7 +38,8 @@ false-alone G A B C D (suc fuel) w s = refl
 -- The steps for a formula on its walk are those of its kind, over the entries of its shape.
 pub written-shape : (G : Graph) (f : Formula) (e : Env) → written_on G f e ≡ along G (shape G f e).kind (a-of G f e) (b-of G f e)
 written-shape G truth e = refl
-written-shape G falsity e = fun_ext (λ fuel. fun_ext (λ w. fun_ext (λ s. false-alone G (no_entry G) (no_entry G) (a-of G falsity e) (b-of G falsity e) fuel w s)))
+written-shape G falsity e = fun_ext
+    (λ fuel. fun_ext (λ w. fun_ext (λ s. false-alone G (no_entry G) (no_entry G) (a-of G falsity e) (b-of G falsity e) fuel w s)))
 written-shape G (is q) e = refl
 written-shape G (is_not q) e = refl
 written-shape G (and f g) e = refl

@@ -75,5 +75,6 @@ returns c =
     c.decode.ensures c.prepare.ensures in
     let hand = goal-hand read.clear lent in
     let is = reading-is c.args.image.now c.args.table.now c.args.certificate.now c.args.q.goal c.args.q.start c.byte-side.ensures
-    (c.formula-end.ensures.is hand) (told_more _ _ _ (omega (arith, c.if-end-size.false, c.if-end-size-2.false, c.if-end-size-3.false, c.if-end-size-4.false))) in
+    (c.formula-end.ensures.is hand)
+    (told_more _ _ _ (omega (arith, c.if-end-size.false, c.if-end-size-2.false, c.if-end-size-3.false, c.if-end-size-4.false))) in
     fails c.args.certificate.now is

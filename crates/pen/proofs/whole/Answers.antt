@@ -1,4 +1,4 @@
--- `writer::whole` meets its contract: the header, and then the steps.
+-- `pen::whole` meets its contract: the header, and then the steps.
 use Rattle.pen.proofs.WroteLaws.{wrote-both}
 use Rattle.pen.proofs.whole.Goals as goal
 

@@ -16,7 +16,8 @@ whole-length-requires c =
 
 pub returns-then-buffer-length : goal.returns-then-buffer-length
 returns-then-buffer-length c =
-    no_room c.args.image.now c.args.table.now c.args.q.goal c.args.q.start c.requires.clear c.side_of-side.ensures c.whole-length.ensures c.if-buffer-length.true
+    no_room c.args.image.now c.args.table.now c.args.q.goal c.args.q.start c.requires.clear c.side_of-side.ensures c.whole-length.ensures
+    c.if-buffer-length.true
 
 pub whole-requires : goal.whole-requires
 whole-requires c =
@@ -24,5 +25,6 @@ whole-requires c =
 
 pub returns : goal.returns
 returns c =
-    with-room c.args.image.now c.args.table.now c.args.q.goal c.args.q.start c.requires.clear c.side_of-side.ensures c.whole-length.ensures c.if-buffer-length.false
+    with-room c.args.image.now c.args.table.now c.args.q.goal c.args.q.start c.requires.clear c.side_of-side.ensures c.whole-length.ensures
+    c.if-buffer-length.false
     c.whole.ensures

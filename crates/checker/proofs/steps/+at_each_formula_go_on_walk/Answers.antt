@@ -1,46 +1,27 @@
 -- The readers of steps, `checker::steps`, meet their contracts: one proof for the whole cycle of calls.
 use native.Mathlib.Omega.{arith}
-use mathlib.Core.Path.{refl}
+use mathlib.Core.Path.{refl, ap, ◌∙◌}
 use Rattle.sets.proofs.LawsFits.{number_lt}
 use Rattle.sets.proofs.LawsWalk.{walk-falls}
 use Rattle.checker.proofs.EachLaws.{turn-of}
-use Rattle.checker.proofs.ArmLaws.{room, a-is, a-bound, handed, onto}
-use Rattle.checker.proofs.LoopLaws.{at-start, at_stage, at_next, at-end, at_stops}
+use Rattle.checker.proofs.ArmLaws.{room, a-is, a-bound, handed, onto, a-operand, b-operand, walking, stage-room, arm-of, arm-kind, arm-ruled, arm-inside}
+use Rattle.checker.proofs.ArmLaws.{arm-fails, arm-proves, next-is, b-bound, arm-ends, head-missing, head-wrong, start_is, from-its-start}
+use Rattle.checker.proofs.LoopLaws.{at-start, at_stage, at_next, at-end, at_stops, rest-as, later-rest, on-rest, going_start, going-stage, going-grows}
+use Rattle.checker.proofs.LoopLaws.{going_next, going_end, going-stops}
 use Rattle.sets.specs.Number.{number}
 use mathlib.Core.Bool.{true}
-use Rattle.sets.specs.Number.{number}
 use Rattle.checker.proofs.ToldLaws.{stops, goes}
-use Rattle.checker.proofs.ConditionLaws.{chosen-fails, chosen-holds, chosen-next}
-use Rattle.checker.proofs.ArmLaws.{room, a-is, a-operand, b-operand, a-bound, handed, walking, onto, stage-room}
-use Rattle.checker.proofs.ArmLaws.{arm-of, arm-kind, arm-ruled, arm-inside, arm-fails, arm-proves, next-is}
+use Rattle.checker.proofs.ConditionLaws.{chosen-fails, chosen-holds, chosen-next, off-holds, off-fails, on-holds, on-fails, off-walk, besides-fails}
 use Rattle.format.specs.Image.{graph_of}
-use Rattle.checker.proofs.ConditionLaws.{off-holds, off-fails, on-holds, on-fails, off-walk, chosen-fails, chosen-holds, besides-fails, chosen-next}
-use Rattle.checker.proofs.ArmLaws.{room, a-is, a-bound, b-bound, handed, walking}
-use Rattle.checker.proofs.ArmLaws.{arm-of, arm-ruled, arm-fails, arm-proves, arm-ends, next-is}
-use Rattle.checker.proofs.ConditionLaws.{off-holds, off-walk}
-use Rattle.checker.proofs.ArmLaws.{b-bound, walking, onto}
-use Rattle.checker.proofs.ArmLaws.{arm-of, arm-ruled, head-missing, head-wrong}
-use Rattle.checker.proofs.LoopLaws.{rest-as, later-rest, on-rest, going_start, going-stage, going-grows, going_next}
-use Rattle.checker.proofs.LoopLaws.{going_end, going-stops}
-use Rattle.checker.proofs.ArmLaws.{room, a-is, a-bound, handed, walking}
-use mathlib.Core.Path.{refl, ap, ◌∙◌}
 use Rattle.sets.proofs.LawsCount.{ones-zero}
 use Rattle.rules.specs.Reading.{Reader}
 use Rattle.rules.specs.declared.Progress.{Progress}
 use Rattle.checker.proofs.ReadingLaws.{from_start}
 use Rattle.checker.proofs.WalkLaws.{grows, along-on}
-use Rattle.checker.proofs.ArmLaws.{room, a-is, start_is, from-its-start, a-bound, handed, walking, onto, stage-room}
 use Rattle.checker.proofs.steps.+at_each_formula_go_on_walk.Goals as goal
 use Rattle.checker.proofs.steps.+at_each_formula_go_on_walk.Goals.{walk-in-AfLater+else-has-2, walk-in-ArOn+else-has-5}
 
--- `at_each` meets its contract: a turn of the loop reads a at the lowest successor that is left.
--- The readers of steps: the measure of each, what each knows of the others, and what holds at each turn of their loops. The measure counts the entry, and
--- along a walk the stages that are not on it; the small constants order the readers of one step.
--- `walk` meets its contract, up to the rules for EX: in each arm its own condition, and then the premises.
--- `walk` meets its contract, the rules for AR and EU: in each arm its own condition, and then the premises.
--- `walk` meets its contract, after the rules: the loop at each successor, and a step with no rule.
--- `walk` meets its contract, the rules for AF and EG: in each arm its own condition, and then the premises.
--- `formula` and `go_on` meet their contracts.
+-- ---- `at_each`: a turn of the loop reads a at the lowest successor that is left
 
 pub at_each-loop-env-init : goal.at_each-loop-env-init
 at_each-loop-env-init t c = at-start _ _ _ _ _ _ _ c.requires.1.1 (number_lt _ _ c.set-left.type_inv) refl c.set-left.ensures
@@ -85,6 +66,8 @@ at_each-loop-env-preserved t c =
 pub at_each-returns : goal.at_each-returns
 at_each-returns t c =
     at-end _ _ _ _ _ _ c.loop-env.invariant c.is_empty.result c.is_empty.ensures c.loop-env-test.false
+
+-- ---- `walk`, up to the rules for EX: in each arm its own condition, and then the premises
 
 pub walk-index-k-requires : goal.walk-index-k-requires
 walk-index-k-requires t c = stage-room c.requires.walk
@@ -245,12 +228,124 @@ walk-returns-in-Ex t c =
           (op.reads _ (c.formula-in-Ex.ensures.is op.hand));
     }
 
+-- ---- `walk`, the rules for AF and EG
+
+pub walk-returns-then-has : goal.walk-returns-then-has
+walk-returns-then-has t c =
+    record {
+      is = λ {image} {table} {side} w.
+          let arm = arm-of c.args.steps.now w.hand c.args.at c.field.ensures c.read_head.ensures c.in-Step.is c.in-AfNow.is in
+          arm-fails arm (number c.args.met) c.args.s (off-fails (number c.args.met) c.index-k.ensures c.has.result c.has.ensures c.if-has.true)
+          c.fails-then-has.ensures;
+    }
+
+pub walk-field-a-requires-in-AfNow : goal.walk-field-a-requires-in-AfNow
+walk-field-a-requires-in-AfNow t c =
+    (omega arith, room c.requires.walk.hand)
+
+pub walk-x_at-bound-requires-in-AfNow : goal.walk-x_at-bound-requires-in-AfNow
+walk-x_at-bound-requires-in-AfNow t c =
+    room c.requires.walk.hand
+
+pub walk-formula-requires-in-AfNow : goal.walk-formula-requires-in-AfNow
+walk-formula-requires-in-AfNow t c =
+    let w = c.requires.walk in
+    let arm = arm-of c.args.steps.now w.hand c.args.at c.field.ensures c.read_head.ensures c.in-Step.is c.in-AfNow.is in
+    let op = a-bound c.args.steps.now w.hand (arm-ruled arm).a c.field-a-in-AfNow.ensures c.x_at-bound-in-AfNow.ensures w.stage in
+    (omega (arith, c.decreases, op.lower), handed op.hand)
+
+pub walk-returns-in-AfNow : goal.walk-returns-in-AfNow
+walk-returns-in-AfNow t c =
+    record {
+      is = λ {image} {table} {side} w.
+          let arm = arm-of c.args.steps.now w.hand c.args.at c.field.ensures c.read_head.ensures c.in-Step.is c.in-AfNow.is in
+          let op = a-bound c.args.steps.now w.hand (arm-ruled arm).a c.field-a-in-AfNow.ensures c.x_at-bound-in-AfNow.ensures w.stage in
+          arm-proves arm (number c.args.met) c.args.s (off-holds (number c.args.met) c.index-k.ensures c.has.result c.has.ensures c.if-has.false)
+          (op.reads _ (c.formula-in-AfNow.ensures.is op.hand));
+    }
+
+pub walk-returns-then-has-2 : goal.walk-returns-then-has-2
+walk-returns-then-has-2 t c =
+    record {
+      is = λ {image} {table} {side} w.
+          let arm = arm-of c.args.steps.now w.hand c.args.at c.field.ensures c.read_head.ensures c.in-Step.is c.in-AfLater.is in
+          arm-fails arm (number c.args.met) c.args.s
+          (off-fails (number c.args.met) c.index-k.ensures c.has-in-AfLater.result c.has-in-AfLater.ensures c.if-has-2.true)
+          c.fails-then-has-2.ensures;
+    }
+
+pub walk-returns-then-has-3 : goal.walk-returns-then-has-3
+walk-returns-then-has-3 t c =
+    record {
+      is = λ {image} {table} {side} w.
+          let arm = arm-of c.args.steps.now w.hand c.args.at c.field.ensures c.read_head.ensures c.in-Step.is c.in-EgOn.is in
+          arm-fails arm (number c.args.met) c.args.s
+          (besides-fails ((graph_of image).next c.args.s c.in-EgOn.c)
+          (off-fails (number c.args.met) c.index-k.ensures c.has-in-EgOn.result c.has-in-EgOn.ensures c.if-has-3.true)) c.fails-then-has-3.ensures;
+    }
+
+pub walk-returns-then-not-leads-2 : goal.walk-returns-then-not-leads-2
+walk-returns-then-not-leads-2 t c =
+    record {
+      is = λ {image} {table} {side} w.
+          let arm = arm-of c.args.steps.now w.hand c.args.at c.field.ensures c.read_head.ensures c.in-Step.is c.in-EgOn.is in
+          arm-fails arm (number c.args.met) c.args.s
+          (chosen-fails c.leads-in-EgOn.result _ (next-is _ w c.index-k.ensures c.leads-in-EgOn.ensures) c.if-not-leads-2.true)
+          c.fails-then-not-leads-2.ensures;
+    }
+
+pub walk-go_on-requires : goal.walk-go_on-requires
+walk-go_on-requires t c =
+    let w = c.requires.walk in
+    let arm = arm-of c.args.steps.now w.hand c.args.at c.field.ensures c.read_head.ensures c.in-Step.is c.in-EgOn.is in (
+      omega (arith, c.decreases),
+      record {
+        walking = c.requires;
+        lower = omega (arith, a-is w.hand, (arm-ruled arm).a);
+        off = off-walk _ _ (off-holds (number c.args.met) c.index-k.ensures c.has-in-EgOn.result c.has-in-EgOn.ensures c.if-has-3.false);
+        next = chosen-next c.leads-in-EgOn.result (next-is _ w c.index-k.ensures c.leads-in-EgOn.ensures) c.if-not-leads-2.false;
+      },
+    )
+
+pub walk-returns-in-EgOn : goal.walk-returns-in-EgOn
+walk-returns-in-EgOn t c =
+    record {
+      is = λ {image} {table} {side} w.
+          let arm = arm-of c.args.steps.now w.hand c.args.at c.field.ensures c.read_head.ensures c.in-Step.is c.in-EgOn.is in
+          arm-proves arm (number c.args.met) c.args.s
+          (chosen-holds c.leads-in-EgOn.result (next-is _ w c.index-k.ensures c.leads-in-EgOn.ensures) c.if-not-leads-2.false
+          (off-holds (number c.args.met) c.index-k.ensures c.has-in-EgOn.result c.has-in-EgOn.ensures c.if-has-3.false))
+          (c.go_on.ensures.is w (chosen-next c.leads-in-EgOn.result (next-is _ w c.index-k.ensures c.leads-in-EgOn.ensures) c.if-not-leads-2.false));
+    }
+
+pub walk-returns-then-not-has : goal.walk-returns-then-not-has
+walk-returns-then-not-has t c =
+    record {
+      is = λ {image} {table} {side} w.
+          let arm = arm-of c.args.steps.now w.hand c.args.at c.field.ensures c.read_head.ensures c.in-Step.is c.in-EgMerge.is in
+          arm-fails arm (number c.args.met) c.args.s
+          (on-fails (number c.args.met) c.index-k.ensures c.has-in-EgMerge.result c.has-in-EgMerge.ensures c.if-not-has.true)
+          c.fails-then-not-has.ensures;
+    }
+
+pub walk-returns-in-EgMerge : goal.walk-returns-in-EgMerge
+walk-returns-in-EgMerge t c =
+    record {
+      is = λ {image} {table} {side} w.
+          let arm = arm-of c.args.steps.now w.hand c.args.at c.field.ensures c.read_head.ensures c.in-Step.is c.in-EgMerge.is in
+          arm-ends arm (number c.args.met) c.args.s _
+          (on-holds (number c.args.met) c.index-k.ensures c.has-in-EgMerge.result c.has-in-EgMerge.ensures c.if-not-has.false) refl;
+    }
+
+-- ---- `walk`, the rules for AR and EU
+
 pub walk-returns-then-has-4 : goal.walk-returns-then-has-4
 walk-returns-then-has-4 t c =
     record {
       is = λ {image} {table} {side} w.
           let arm = arm-of c.args.steps.now w.hand c.args.at c.field.ensures c.read_head.ensures c.in-Step.is c.in-ArRelease.is in
-          arm-fails arm (number c.args.met) c.args.s (off-fails (number c.args.met) c.index-k.ensures c.has-in-ArRelease.result c.has-in-ArRelease.ensures c.if-has-4.true)
+          arm-fails arm (number c.args.met) c.args.s
+          (off-fails (number c.args.met) c.index-k.ensures c.has-in-ArRelease.result c.has-in-ArRelease.ensures c.if-has-4.true)
           c.fails-then-has-4.ensures;
     }
 
@@ -275,7 +370,8 @@ walk-returns-then-steps-here-2 t c =
       is = λ {image} {table} {side} w.
           let arm = arm-of c.args.steps.now w.hand c.args.at c.field.ensures c.read_head.ensures c.in-Step.is c.in-ArRelease.is in
           let op = a-bound c.args.steps.now w.hand (arm-ruled arm).a c.field-a-in-ArRelease.ensures c.x_at-bound-in-ArRelease.ensures w.stage in
-          arm-proves arm (number c.args.met) c.args.s (off-holds (number c.args.met) c.index-k.ensures c.has-in-ArRelease.result c.has-in-ArRelease.ensures c.if-has-4.false)
+          arm-proves arm (number c.args.met) c.args.s
+          (off-holds (number c.args.met) c.index-k.ensures c.has-in-ArRelease.result c.has-in-ArRelease.ensures c.if-has-4.false)
           (stops _ _ c.if-steps-here-2.true (op.reads _ (c.formula-here-in-ArRelease.ensures.is op.hand)));
     }
 
@@ -301,8 +397,10 @@ walk-returns-in-ArRelease t c =
           let arm = arm-of c.args.steps.now w.hand c.args.at c.field.ensures c.read_head.ensures c.in-Step.is c.in-ArRelease.is in
           let first = a-bound c.args.steps.now w.hand (arm-ruled arm).a c.field-a-in-ArRelease.ensures c.x_at-bound-in-ArRelease.ensures w.stage in
           let second = b-bound c.args.steps.now w.hand (arm-ruled arm).b c.field-b-in-ArRelease.ensures c.y_at-bound.ensures w.stage in
-          arm-proves arm (number c.args.met) c.args.s (off-holds (number c.args.met) c.index-k.ensures c.has-in-ArRelease.result c.has-in-ArRelease.ensures c.if-has-4.false)
-          (goes _ _ c.if-steps-here-2.false (first.reads _ (c.formula-here-in-ArRelease.ensures.is first.hand)) (second.reads _ (c.formula-in-ArRelease.ensures.is second.hand)));
+          arm-proves arm (number c.args.met) c.args.s
+          (off-holds (number c.args.met) c.index-k.ensures c.has-in-ArRelease.result c.has-in-ArRelease.ensures c.if-has-4.false)
+          (goes _ _ c.if-steps-here-2.false (first.reads _ (c.formula-here-in-ArRelease.ensures.is first.hand))
+          (second.reads _ (c.formula-in-ArRelease.ensures.is second.hand)));
     }
 
 pub walk-returns-then-has-5 : goal.walk-returns-then-has-5
@@ -310,7 +408,8 @@ walk-returns-then-has-5 t c =
     record {
       is = λ {image} {table} {side} w.
           let arm = arm-of c.args.steps.now w.hand c.args.at c.field.ensures c.read_head.ensures c.in-Step.is c.in-ArOn.is in
-          arm-fails arm (number c.args.met) c.args.s (off-fails (number c.args.met) c.index-k.ensures c.has-in-ArOn.result c.has-in-ArOn.ensures c.if-has-5.true)
+          arm-fails arm (number c.args.met) c.args.s
+          (off-fails (number c.args.met) c.index-k.ensures c.has-in-ArOn.result c.has-in-ArOn.ensures c.if-has-5.true)
           c.fails-then-has-5.ensures;
     }
 
@@ -334,7 +433,8 @@ walk-returns-then-not-has-2 t c =
     record {
       is = λ {image} {table} {side} w.
           let arm = arm-of c.args.steps.now w.hand c.args.at c.field.ensures c.read_head.ensures c.in-Step.is c.in-ArMerge.is in
-          arm-fails arm (number c.args.met) c.args.s (on-fails (number c.args.met) c.index-k.ensures c.has-in-ArMerge.result c.has-in-ArMerge.ensures c.if-not-has-2.true)
+          arm-fails arm (number c.args.met) c.args.s
+          (on-fails (number c.args.met) c.index-k.ensures c.has-in-ArMerge.result c.has-in-ArMerge.ensures c.if-not-has-2.true)
           c.fails-then-not-has-2.ensures;
     }
 
@@ -352,7 +452,8 @@ walk-returns-then-has-6 t c =
     record {
       is = λ {image} {table} {side} w.
           let arm = arm-of c.args.steps.now w.hand c.args.at c.field.ensures c.read_head.ensures c.in-Step.is c.in-EuNow.is in
-          arm-fails arm (number c.args.met) c.args.s (off-fails (number c.args.met) c.index-k.ensures c.has-in-EuNow.result c.has-in-EuNow.ensures c.if-has-6.true)
+          arm-fails arm (number c.args.met) c.args.s
+          (off-fails (number c.args.met) c.index-k.ensures c.has-in-EuNow.result c.has-in-EuNow.ensures c.if-has-6.true)
           c.fails-then-has-6.ensures;
     }
 
@@ -377,7 +478,8 @@ walk-returns-in-EuNow t c =
       is = λ {image} {table} {side} w.
           let arm = arm-of c.args.steps.now w.hand c.args.at c.field.ensures c.read_head.ensures c.in-Step.is c.in-EuNow.is in
           let op = b-bound c.args.steps.now w.hand (arm-ruled arm).b c.field-b-in-EuNow.ensures c.y_at-bound-in-EuNow.ensures w.stage in
-          arm-proves arm (number c.args.met) c.args.s (off-holds (number c.args.met) c.index-k.ensures c.has-in-EuNow.result c.has-in-EuNow.ensures c.if-has-6.false)
+          arm-proves arm (number c.args.met) c.args.s
+          (off-holds (number c.args.met) c.index-k.ensures c.has-in-EuNow.result c.has-in-EuNow.ensures c.if-has-6.false)
           (op.reads _ (c.formula-in-EuNow.ensures.is op.hand));
     }
 
@@ -397,7 +499,8 @@ walk-returns-then-not-leads-3 t c =
       is = λ {image} {table} {side} w.
           let arm = arm-of c.args.steps.now w.hand c.args.at c.field.ensures c.read_head.ensures c.in-Step.is c.in-EuLater.is in
           arm-fails arm (number c.args.met) c.args.s
-          (chosen-fails c.leads-in-EuLater.result _ (next-is _ w c.index-k.ensures c.leads-in-EuLater.ensures) c.if-not-leads-3.true) c.fails-then-not-leads-3.ensures;
+          (chosen-fails c.leads-in-EuLater.result _ (next-is _ w c.index-k.ensures c.leads-in-EuLater.ensures) c.if-not-leads-3.true)
+          c.fails-then-not-leads-3.ensures;
     }
 
 pub walk-go_on-requires-in-EuLater : goal.walk-go_on-requires-in-EuLater
@@ -421,8 +524,11 @@ walk-returns-in-EuLater t c =
           arm-proves arm (number c.args.met) c.args.s
           (chosen-holds c.leads-in-EuLater.result (next-is _ w c.index-k.ensures c.leads-in-EuLater.ensures) c.if-not-leads-3.false
           (off-holds (number c.args.met) c.index-k.ensures c.has-in-EuLater.result c.has-in-EuLater.ensures c.if-has-7.false))
-          (c.go_on-in-EuLater.ensures.is w (chosen-next c.leads-in-EuLater.result (next-is _ w c.index-k.ensures c.leads-in-EuLater.ensures) c.if-not-leads-3.false));
+          (c.go_on-in-EuLater.ensures.is w
+          (chosen-next c.leads-in-EuLater.result (next-is _ w c.index-k.ensures c.leads-in-EuLater.ensures) c.if-not-leads-3.false));
     }
+
+-- ---- `walk`, after the rules: the loop at each successor, and a step with no rule
 
 pub walk-loop-env-init : goal.walk-loop-env-init
 walk-loop-env-init t c =
@@ -466,7 +572,8 @@ walk-loop-env-smaller t c =
 pub walk-loop-env-preserved : goal.walk-loop-env-preserved
 walk-loop-env-preserved t c =
     let turn = turn-of c.is_empty.result c.is_empty.ensures c.loop-env-test.true c.lowest-t.ensures c.rest-left.ensures in
-    going_next _ _ _ _ _ _ _ _ c.loop-env.invariant turn (number_lt _ _ c.well_formed.1.1.1.1.1.0) c.index-k.ensures c.with-grown.ensures c.if-steps-here-3.false
+    going_next _ _ _ _ _ _ _ _ c.loop-env.invariant turn
+    (number_lt _ _ c.well_formed.1.1.1.1.1.0) c.index-k.ensures c.with-grown.ensures c.if-steps-here-3.false
     c.walk-here.ensures
 
 pub walk-returns-after-loop-env : goal.walk-returns-after-loop-env
@@ -489,109 +596,7 @@ walk-returns-in-Wrong t c =
           c.in-Wrong.is c.wrong.ensures;
     }
 
-pub walk-returns-then-has : goal.walk-returns-then-has
-walk-returns-then-has t c =
-    record {
-      is = λ {image} {table} {side} w.
-          let arm = arm-of c.args.steps.now w.hand c.args.at c.field.ensures c.read_head.ensures c.in-Step.is c.in-AfNow.is in
-          arm-fails arm (number c.args.met) c.args.s (off-fails (number c.args.met) c.index-k.ensures c.has.result c.has.ensures c.if-has.true)
-          c.fails-then-has.ensures;
-    }
-
-pub walk-field-a-requires-in-AfNow : goal.walk-field-a-requires-in-AfNow
-walk-field-a-requires-in-AfNow t c =
-    (omega arith, room c.requires.walk.hand)
-
-pub walk-x_at-bound-requires-in-AfNow : goal.walk-x_at-bound-requires-in-AfNow
-walk-x_at-bound-requires-in-AfNow t c =
-    room c.requires.walk.hand
-
-pub walk-formula-requires-in-AfNow : goal.walk-formula-requires-in-AfNow
-walk-formula-requires-in-AfNow t c =
-    let w = c.requires.walk in
-    let arm = arm-of c.args.steps.now w.hand c.args.at c.field.ensures c.read_head.ensures c.in-Step.is c.in-AfNow.is in
-    let op = a-bound c.args.steps.now w.hand (arm-ruled arm).a c.field-a-in-AfNow.ensures c.x_at-bound-in-AfNow.ensures w.stage in
-    (omega (arith, c.decreases, op.lower), handed op.hand)
-
-pub walk-returns-in-AfNow : goal.walk-returns-in-AfNow
-walk-returns-in-AfNow t c =
-    record {
-      is = λ {image} {table} {side} w.
-          let arm = arm-of c.args.steps.now w.hand c.args.at c.field.ensures c.read_head.ensures c.in-Step.is c.in-AfNow.is in
-          let op = a-bound c.args.steps.now w.hand (arm-ruled arm).a c.field-a-in-AfNow.ensures c.x_at-bound-in-AfNow.ensures w.stage in
-          arm-proves arm (number c.args.met) c.args.s (off-holds (number c.args.met) c.index-k.ensures c.has.result c.has.ensures c.if-has.false)
-          (op.reads _ (c.formula-in-AfNow.ensures.is op.hand));
-    }
-
-pub walk-returns-then-has-2 : goal.walk-returns-then-has-2
-walk-returns-then-has-2 t c =
-    record {
-      is = λ {image} {table} {side} w.
-          let arm = arm-of c.args.steps.now w.hand c.args.at c.field.ensures c.read_head.ensures c.in-Step.is c.in-AfLater.is in
-          arm-fails arm (number c.args.met) c.args.s (off-fails (number c.args.met) c.index-k.ensures c.has-in-AfLater.result c.has-in-AfLater.ensures c.if-has-2.true)
-          c.fails-then-has-2.ensures;
-    }
-
-pub walk-returns-then-has-3 : goal.walk-returns-then-has-3
-walk-returns-then-has-3 t c =
-    record {
-      is = λ {image} {table} {side} w.
-          let arm = arm-of c.args.steps.now w.hand c.args.at c.field.ensures c.read_head.ensures c.in-Step.is c.in-EgOn.is in
-          arm-fails arm (number c.args.met) c.args.s
-          (besides-fails ((graph_of image).next c.args.s c.in-EgOn.c)
-          (off-fails (number c.args.met) c.index-k.ensures c.has-in-EgOn.result c.has-in-EgOn.ensures c.if-has-3.true)) c.fails-then-has-3.ensures;
-    }
-
-pub walk-returns-then-not-leads-2 : goal.walk-returns-then-not-leads-2
-walk-returns-then-not-leads-2 t c =
-    record {
-      is = λ {image} {table} {side} w.
-          let arm = arm-of c.args.steps.now w.hand c.args.at c.field.ensures c.read_head.ensures c.in-Step.is c.in-EgOn.is in
-          arm-fails arm (number c.args.met) c.args.s
-          (chosen-fails c.leads-in-EgOn.result _ (next-is _ w c.index-k.ensures c.leads-in-EgOn.ensures) c.if-not-leads-2.true) c.fails-then-not-leads-2.ensures;
-    }
-
-pub walk-go_on-requires : goal.walk-go_on-requires
-walk-go_on-requires t c =
-    let w = c.requires.walk in
-    let arm = arm-of c.args.steps.now w.hand c.args.at c.field.ensures c.read_head.ensures c.in-Step.is c.in-EgOn.is in (
-      omega (arith, c.decreases),
-      record {
-        walking = c.requires;
-        lower = omega (arith, a-is w.hand, (arm-ruled arm).a);
-        off = off-walk _ _ (off-holds (number c.args.met) c.index-k.ensures c.has-in-EgOn.result c.has-in-EgOn.ensures c.if-has-3.false);
-        next = chosen-next c.leads-in-EgOn.result (next-is _ w c.index-k.ensures c.leads-in-EgOn.ensures) c.if-not-leads-2.false;
-      },
-    )
-
-pub walk-returns-in-EgOn : goal.walk-returns-in-EgOn
-walk-returns-in-EgOn t c =
-    record {
-      is = λ {image} {table} {side} w.
-          let arm = arm-of c.args.steps.now w.hand c.args.at c.field.ensures c.read_head.ensures c.in-Step.is c.in-EgOn.is in
-          arm-proves arm (number c.args.met) c.args.s
-          (chosen-holds c.leads-in-EgOn.result (next-is _ w c.index-k.ensures c.leads-in-EgOn.ensures) c.if-not-leads-2.false
-          (off-holds (number c.args.met) c.index-k.ensures c.has-in-EgOn.result c.has-in-EgOn.ensures c.if-has-3.false))
-          (c.go_on.ensures.is w (chosen-next c.leads-in-EgOn.result (next-is _ w c.index-k.ensures c.leads-in-EgOn.ensures) c.if-not-leads-2.false));
-    }
-
-pub walk-returns-then-not-has : goal.walk-returns-then-not-has
-walk-returns-then-not-has t c =
-    record {
-      is = λ {image} {table} {side} w.
-          let arm = arm-of c.args.steps.now w.hand c.args.at c.field.ensures c.read_head.ensures c.in-Step.is c.in-EgMerge.is in
-          arm-fails arm (number c.args.met) c.args.s (on-fails (number c.args.met) c.index-k.ensures c.has-in-EgMerge.result c.has-in-EgMerge.ensures c.if-not-has.true)
-          c.fails-then-not-has.ensures;
-    }
-
-pub walk-returns-in-EgMerge : goal.walk-returns-in-EgMerge
-walk-returns-in-EgMerge t c =
-    record {
-      is = λ {image} {table} {side} w.
-          let arm = arm-of c.args.steps.now w.hand c.args.at c.field.ensures c.read_head.ensures c.in-Step.is c.in-EgMerge.is in
-          arm-ends arm (number c.args.met) c.args.s _
-          (on-holds (number c.args.met) c.index-k.ensures c.has-in-EgMerge.result c.has-in-EgMerge.ensures c.if-not-has.false) refl;
-    }
+-- ---- `formula` and `go_on`
 
 pub formula-field-requires : goal.formula-field-requires
 formula-field-requires t c = (omega arith, room c.requires.hand)

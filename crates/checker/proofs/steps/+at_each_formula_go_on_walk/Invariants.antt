@@ -1,11 +1,10 @@
--- The readers of steps, `checker::steps`, meet their contracts: one proof for the whole cycle of calls.
-use Prim.Native.Nat.{ℕ}
+-- The readers of steps, `checker::steps`: the measure of each, and what holds at each turn of their loops. The measure counts the entry, and along a walk
+-- the stages that are not on it; the small constants order the readers of one step.
 use Prim.Native.Nat.{ℕ, ◌+◌, ◌*◌, ◌-◌}
 use lib.Count.{ones}
 use Rattle.sets.specs.Number.{number, width}
 use Rattle.hand.specs.Environment.{env_of}
 use Rattle.checker.proofs.LoopLaws.{AtEach, Going}
-use Rattle.sets.specs.Number.{number}
 use Rattle.checker.proofs.steps.+at_each_formula_go_on_walk.Given as goal
 
 -- How deep the reading of entry e along a walk may go.
@@ -29,13 +28,11 @@ invariant-at_each-loop-env l =
     AtEach l.sets l.entries l.steps l.e (env_of l.env) l.s l.at (number l.left) l.here l.fault
 
 abbrev pub decreases-at_each-loop-env : goal.decreases-at_each-loop-env
-decreases-at_each-loop-env l =
-    ones (number l.left)
+decreases-at_each-loop-env l = ones (number l.left)
 
 abbrev pub invariant-walk-loop-env : goal.invariant-walk-loop-env
 invariant-walk-loop-env l =
     Going l.sets l.entries l.steps l.e (env_of l.env) l.s (number l.met) l.at (number l.left) l.here l.fault
 
 abbrev pub decreases-walk-loop-env : goal.decreases-walk-loop-env
-decreases-walk-loop-env l =
-    ones (number l.left)
+decreases-walk-loop-env l = ones (number l.left)

@@ -24,7 +24,8 @@ returns-else-kind-eq2 c =
     record {
       is = λ {image} {table} {side} hand. not-fails
           (arm-of c.args.steps.now hand c.args.at c.field-kind.ensures c.read_head.ensures c.in-Step.is refl) c.atom.ensures
-          (λ o. c.if-kind-eq0.false (c.field-kind.ensures ∙ o)) (λ o. c.if-kind-eq2.false (c.field-kind.ensures ∙ o)) c.requires.1 c.if-atom.true c.fails.ensures;
+          (λ o. c.if-kind-eq0.false (c.field-kind.ensures ∙ o))
+          (λ o. c.if-kind-eq2.false (c.field-kind.ensures ∙ o)) c.requires.1 c.if-atom.true c.fails.ensures;
     }
 
 pub returns-then-kind-eq2-2 : goal.returns-then-kind-eq2-2

@@ -1,4 +1,4 @@
--- `writer::bytes::header` meets its contract: eight bytes, one after the other.
+-- `pen::bytes::header` meets its contract: eight bytes, one after the other.
 use Rattle.pen.proofs.WroteLaws.{wrote-both}
 use Rattle.pen.proofs.bytes.header.Goals as goal
 

@@ -1,4 +1,4 @@
--- `writer::bytes::put` meets its contract: there is no room for the byte, or it is stored, or only counted.
+-- `pen::bytes::put` meets its contract: there is no room for the byte, or it is stored, or only counted.
 use Rattle.pen.proofs.WroteLaws.{wrote-full, wrote-stored, wrote-counted}
 use Rattle.pen.proofs.bytes.put.Goals as goal
 use Rattle.pen.proofs.bytes.put.Goals.{then-writing, else-writing}

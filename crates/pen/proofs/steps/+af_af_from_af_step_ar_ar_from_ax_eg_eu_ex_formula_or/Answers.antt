@@ -1,5 +1,4 @@
--- The writers of steps, `writer::steps`, meet their contracts: one proof for the whole cycle of calls.
--- `af_from`, `af` and `af_step` meet their contracts: a walk of AF, with the lengths that are noted.
+-- The writers of steps, `pen::steps`, meet their contracts: one proof for the whole cycle of calls.
 use Prim.Native.Nat.{ℕ}
 use native.Mathlib.Omega.{arith}
 use Rattle.rules.specs.declared.Rule.{Rule}
@@ -9,60 +8,30 @@ use Rattle.sets.proofs.LawsFits.{number_lt}
 use Rattle.sets.proofs.LawsWalk.{walk-falls}
 use Rattle.format.specs.Image.{graph_of}
 use Rattle.hand.specs.Environment.{env_of}
-use Rattle.pen.proofs.WroteLaws.{wrote-length, wrote-place, wrote-past, wrote-both, wrote-same}
-use Rattle.pen.proofs.EachLaws.{turn-of, each_start, each-stage, each-edge, each-end}
+use Rattle.pen.proofs.WroteLaws.{wrote-length, wrote-place, wrote-past, wrote-both, wrote-same, wrote_none}
+use Rattle.pen.proofs.EachLaws.{turn-of, each_start, each-stage, each-edge, each-end, each_next as turns-on}
 use Rattle.logic.specs.Test.{af as af_test}
-use Rattle.pen.specs.Steps.{a_of, af_steps}
-use Rattle.pen.proofs.EachLaws.{each_next as turns-on}
-use Rattle.pen.proofs.KindLaws.{fields, rule-of, af-from as af-holds, af-start}
-use Rattle.pen.proofs.WriterLaws.{start_is, start-below, ready_of, under, code_wrote, operand-wrote, stop-has, stop-lacks, next-all}
-use Rattle.pen.proofs.StepLaws.{collects-of, af-now-steps, af-later-steps, known_past, known-fits, noted-new, noted_more}
+use Rattle.pen.specs.Steps.{a_of, af_steps, b_of, InHand}
+use Rattle.pen.proofs.KindLaws.{fields, rule-of, af-from as af-holds, af-start, ar-from as ar-from-start, eg-from, eu-from, kind-told, true-steps, is-steps}
+use Rattle.pen.proofs.KindLaws.{is-not-steps, false-never, no_kind, and_both, and-steps, or_right, left-steps, right-steps, ax-each, ax-steps, ex-some}
+use Rattle.pen.proofs.KindLaws.{ex-steps}
+use Rattle.pen.proofs.WriterLaws.{start_is, start-below, ready_of, under, code_wrote, operand-wrote, stop-has, stop-lacks, next-all, walk-has, walk-lacks}
+use Rattle.pen.proofs.WriterLaws.{going_start, going_more, going_end, going_done, same-env, plain-wrote}
+use Rattle.pen.proofs.StepLaws.{collects-of, af-now-steps, af-later-steps, known_past, known-fits, noted-new, noted_more, two_ends, ar-begins, ar-merges}
+use Rattle.pen.proofs.StepLaws.{ar-releases, ar-goes, leads-of, nearest-of, eg-begins, eg-merges, eg-goes, one-ends, eu-begins, eu-stops, eu-goes, told-true}
+use Rattle.pen.proofs.StepLaws.{told-false, choice-of}
 use Rattle.pen.proofs.AfLaws.{lasts-start, lasts_on}
-use mathlib.Core.Path.{refl, sym, subst, ◌∙◌}
 use Rattle.logic.specs.Test as Test
 use Rattle.rules.specs.Kind.{Kind}
-use Rattle.pen.specs.Steps.{a_of, b_of}
-use Rattle.pen.proofs.WroteLaws.{wrote_none}
-use Rattle.pen.proofs.KindLaws.{fields, rule-of, ar-from as ar-from-start}
-use Rattle.pen.proofs.WriterLaws.{start_is, start-below, ready_of, under, code_wrote, operand-wrote, stop-has, stop-lacks, walk-has, walk-lacks}
-use Rattle.pen.proofs.WriterLaws.{next-all}
-use Rattle.pen.proofs.StepLaws.{collects-of, two_ends, ar-begins, ar-merges, ar-releases, ar-goes}
-use Rattle.pen.proofs.AlongLaws.{ar-here, ar-there}
-use mathlib.Core.Path.{sym, subst, ◌∙◌}
+use Rattle.pen.proofs.AlongLaws.{ar-here, ar-there, eg-holds, eu-holds, ex-holds}
 use Rattle.logic.specs.Rules.{empty, also}
-use Rattle.format.specs.Image.{graph_of}
 use Rattle.guide.proofs.TowardLaws.{cleared-new}
-use Rattle.pen.specs.Steps.{a_of, b_of}
-use Rattle.pen.proofs.WroteLaws.{wrote-length, wrote-past, wrote-both, wrote-same}
-use Rattle.pen.proofs.KindLaws.{fields, rule-of, eg-from, eu-from}
-use Rattle.pen.proofs.WriterLaws.{going_start, going_more, going_end, going_done}
-use Rattle.pen.proofs.StepLaws.{collects-of, leads-of, nearest-of, eg-begins, eg-merges, eg-goes, one-ends, two_ends, eu-begins}
-use Rattle.pen.proofs.StepLaws.{eu-stops, eu-goes}
-use Rattle.pen.proofs.AlongLaws.{eg-holds, eu-holds}
-use Prim.Native.Nat.{ℕ}
 use Rattle.format.specs.declared.record.Kind.TheVariants as K
-use Rattle.pen.specs.Steps.{InHand}
-use Rattle.pen.proofs.WroteLaws.{wrote-past, wrote-both, wrote-same}
-use Rattle.pen.proofs.KindLaws.{fields, rule-of, kind-told, true-steps, is-steps, is-not-steps, false-never, no_kind}
-use Rattle.pen.proofs.KindLaws.{and_both, and-steps, or_right, left-steps, right-steps}
-use Rattle.pen.proofs.WriterLaws.{ready_of, same-env, code_wrote, plain-wrote}
-use Rattle.pen.proofs.StepLaws.{told-true, told-false}
-use mathlib.Core.Path.{refl, ap, ◌∙◌}
 use Rattle.sets.specs.Row.{held}
 use Rattle.logic.proofs.Successors.{each_next_lem}
-use Rattle.pen.specs.Steps.{a_of}
-use Rattle.pen.proofs.KindLaws.{fields, rule-of, ax-each, ax-steps, ex-some, ex-steps}
-use Rattle.pen.proofs.WriterLaws.{start_is, start-below, ready_of, under, code_wrote, operand-wrote, next-all}
-use Rattle.pen.proofs.StepLaws.{choice-of}
-use Rattle.pen.proofs.AlongLaws.{ex-holds}
 use Rattle.pen.proofs.steps.+af_af_from_af_step_ar_ar_from_ax_eg_eu_ex_formula_or.Goals as goal
 
--- `ar_from` and `ar` meet their contracts: a walk of AR.
--- `eg` and `eu` meet their contracts: walks that go on at a chosen successor, in a loop.
--- The writers of steps: the measure of each, and what each knows of the others. The measure counts the entry, and along a walk the fuel; the small
--- constants order the writers of one step.
--- `formula` and `or` meet their contracts: by the kind, and left or right.
--- `ax` and `ex` meet their contracts: at each successor, and at a chosen one.
+-- ---- `af_from`, `af` and `af_step`: a walk of AF, with the lengths that are noted
 
 pub af_from-returns-then-out-at : goal.af_from-returns-then-out-at
 af_from-returns-then-out-at t c = wrote-past _ _ _ _ c.if-out-at.true
@@ -257,6 +226,8 @@ af_step-returns t c =
           c.loop-env-test.false)),
       c.loop-env.invariant.1,
     )
+
+-- ---- `ar_from` and `ar`: a walk of AR
 
 pub ar_from-returns-then-out-at : goal.ar_from-returns-then-out-at
 ar_from-returns-then-out-at t c = wrote-past _ _ _ _ c.if-out-at.true
@@ -506,6 +477,8 @@ ar-returns t c =
     (wrote-both (operand-wrote image table side f.b f.y (omega (arith, rule.y)) c.bound-to-2.ensures c.formula-here.ensures)
     (each-end row a.below _ _ _ _ c.loop-env.invariant c.is_empty.result c.is_empty.ensures c.loop-env-test.false)))
 
+-- ---- `eg` and `eu`: walks that go on at a chosen successor, in a loop
+
 pub eg-returns-then-out-at : goal.eg-returns-then-out-at
 eg-returns-then-out-at t c = wrote-past _ _ _ _ c.if-out-at.true
 
@@ -563,7 +536,8 @@ eg-formula-here-requires t c =
     let f = fields h.holding c.entry_at-f.ensures in
     let rule = rule-of h in
     let c-is = leads-of image table side env f.a f.x c.byte-n.ensures c.loop-left.invariant.below c.eg.ensures in
-    let on = eg-holds h.holding.setup.readable (a_of image table side c.args.e (env_of env)).holds _ c.loop-left.invariant.below c-is c.loop-left.invariant.holds in (
+    let on = eg-holds h.holding.setup.readable
+    (a_of image table side c.args.e (env_of env)).holds _ c.loop-left.invariant.below c-is c.loop-left.invariant.holds in (
       omega (arith, c.decreases, f.a, rule.a),
       under h.holding f.a rule.a f.x (omega (arith, rule.x)) c.loop-left.invariant.below c.bound-to.ensures on.0,
     )
@@ -586,7 +560,8 @@ eg-loop-left-preserved t c =
     let on = eg-holds h.holding.setup.readable (a_of image table side e (env_of env)).holds _ c.loop-left.invariant.below c-is c.loop-left.invariant.holds in
     record {
       going = going_more c.loop-left.invariant.going
-          (eg-goes image table side e env _ _ _ c.loop-left-test.true (omega (arith, c.loop-left.invariant.below, c.requires.holding.setup.row.room)) (walk-lacks _ _
+          (eg-goes image table side e env _ _ _ c.loop-left-test.true (omega (arith, c.loop-left.invariant.below, c.requires.holding.setup.row.room))
+          (walk-lacks _ _
           c.has.ensures c.if-has.false) c.with-walk.ensures c-is)
           (wrote-both (code_wrote (Rule.EgOn 0) c.code_of-in-loop-left.ensures c.put-on.ensures)
           (wrote-both c.put-chosen.ensures (operand-wrote image table side f.a f.x (omega (arith, rule.x)) c.bound-to.ensures c.formula-here.ensures)));
@@ -722,6 +697,8 @@ pub eu-returns : goal.eu-returns
 eu-returns t c =
     going_done c.loop-left.invariant.going (two_ends c.args.image.now c.args.table.now c.args.side c.args.e c.args.env Kind.EU _ _ (omega
     (arith, c.loop-left-test.false)))
+
+-- ---- `formula` and `or`: by the kind, and left or right
 
 pub formula-entry_at-f-requires : goal.formula-entry_at-f-requires
 formula-entry_at-f-requires t c =
@@ -899,6 +876,8 @@ or-returns t c =
     wrote-same (right-steps h (told-false image table side c.args.env f.a c.holds_on.ensures c.if-holds_on.false))
     (wrote-both (code_wrote Rule.OrRight c.code_of-2.ensures c.put-on-2.ensures) (plain-wrote image table side f.b _
     c.formula-2.ensures))
+
+-- ---- `ax` and `ex`: at each successor, and at a chosen one
 
 pub ax-returns-then-out-at : goal.ax-returns-then-out-at
 ax-returns-then-out-at t c = wrote-past _ _ _ _ c.if-out-at.true

@@ -1,25 +1,21 @@
--- The writers of steps, `writer::steps`, meet their contracts: one proof for the whole cycle of calls.
--- `af_from`, `af` and `af_step` meet their contracts: a walk of AF, with the lengths that are noted.
+-- The writers of steps, `pen::steps`: the measure of each, and what holds at each turn of their loops. The measure counts the entry, and along a walk the
+-- fuel; the small constants order the writers of one step.
 use lib.Count.{ones}
 use Rattle.sets.specs.Number.{number}
 use Rattle.format.specs.Image.{stages_of, graph_of}
 use Rattle.hand.specs.Environment.{env_of}
 use Rattle.pen.proofs.EachLaws.{Turns}
-use Rattle.pen.specs.Steps.{a_of, af_steps, Noted}
-use Prim.Native.Nat.{◌-◌}
+use Rattle.pen.specs.Steps.{a_of, af_steps, Noted, two_steps, start_of}
+use Prim.Native.Nat.{◌-◌, ◌+◌, ◌*◌}
 use Rattle.rules.specs.Kind.{Kind}
 use Rattle.checker.specs.Reading.{walk_of}
-use Rattle.pen.specs.Steps.{a_of, two_steps}
-use Rattle.format.specs.Image.{graph_of}
-use Rattle.pen.specs.Steps.{a_of}
 use Rattle.pen.proofs.StepLaws.{EgGoing, EuGoing}
-use Prim.Native.Nat.{◌+◌, ◌*◌}
-use Rattle.pen.specs.Steps.{a_of, start_of}
 use Rattle.pen.proofs.steps.+af_af_from_af_step_ar_ar_from_ax_eg_eu_ex_formula_or.Given as goal
 
 abbrev pub invariant-af_step-loop-env : goal.invariant-af_step-loop-env
 invariant-af_step-loop-env l =
-    Turns (stages_of l.image) ((graph_of l.image).next l.s) (af_steps l.image l.table l.side l.e (env_of l.env)) l.write l.initial.here l.initial.out (number l.there) l.out l.here
+    Turns (stages_of l.image) ((graph_of l.image).next l.s) (af_steps l.image l.table l.side l.e (env_of l.env)) l.write l.initial.here l.initial.out
+    (number l.there) l.out l.here
     × Noted l.image l.table l.side l.e (env_of l.env) l.lens
 
 abbrev pub decreases-af_step-loop-env : goal.decreases-af_step-loop-env
@@ -27,7 +23,8 @@ decreases-af_step-loop-env l = ones (number l.there)
 
 abbrev pub invariant-ar-loop-env : goal.invariant-ar-loop-env
 invariant-ar-loop-env l =
-    Turns (stages_of l.image) ((graph_of l.image).next l.s) (two_steps l.image l.table l.side Kind.AR l.e (env_of l.env) (l.left - 1) (walk_of (number l.longer))) l.write l.initial.here l.initial.out
+    Turns (stages_of l.image) ((graph_of l.image).next l.s)
+    (two_steps l.image l.table l.side Kind.AR l.e (env_of l.env) (l.left - 1) (walk_of (number l.longer))) l.write l.initial.here l.initial.out
     (number l.there) l.out l.here
 
 abbrev pub decreases-ar-loop-env : goal.decreases-ar-loop-env
@@ -82,7 +79,8 @@ decreases-or l = 400 * l.e + 380
 
 abbrev pub invariant-ax-loop-env : goal.invariant-ax-loop-env
 invariant-ax-loop-env l =
-    Turns (stages_of l.image) ((graph_of l.image).next (start_of l.image l.table l.side l.e (env_of l.env))) (a_of l.image l.table l.side l.e (env_of l.env)).steps l.write l.initial.here l.initial.out
+    Turns (stages_of l.image) ((graph_of l.image).next (start_of l.image l.table l.side l.e (env_of l.env)))
+    (a_of l.image l.table l.side l.e (env_of l.env)).steps l.write l.initial.here l.initial.out
     (number l.there) l.out l.here
 
 abbrev pub decreases-ax-loop-env : goal.decreases-ax-loop-env

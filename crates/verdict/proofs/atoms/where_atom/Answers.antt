@@ -16,5 +16,6 @@ returns-else-names c =
 
 pub returns-else-byte-eq2 : goal.returns-else-byte-eq2
 returns-else-byte-eq2 c =
-    set-atom c.args.image.now c.args.r c.args.env c.args.x c.first_set-first.ensures.is (λ e. c.if-byte-eq2.false (c.byte.ensures ∙ e)) c.set-else-byte-eq2.ensures
+    set-atom c.args.image.now c.args.r c.args.env c.args.x c.first_set-first.ensures.is
+    (λ e. c.if-byte-eq2.false (c.byte.ensures ∙ e)) c.set-else-byte-eq2.ensures
     c.where_in-else-byte-eq2.ensures

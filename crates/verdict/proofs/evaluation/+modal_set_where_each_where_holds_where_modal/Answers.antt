@@ -8,9 +8,9 @@ use Rattle.sets.specs.Number.{number}
 use Rattle.format.proofs.TreeLaws.{row}
 use Rattle.verdict.specs.Kinds.{is_first}
 use Rattle.verdict.proofs.CollectLaws.{collects-start, collects-take, collects-skip, collects-end}
-use Rattle.verdict.proofs.EvaluationLaws.{constant-arm, literal-arm, junction-arm, unary-arm, binary-arm, none-arm, unary-set, binary-set}
-use Rattle.verdict.proofs.EvaluationLaws.{settled-arm, no-set, each_turn, once-arm}
-use Rattle.verdict.proofs.EvaluationLaws.{ready-bound, ready-rule, unary-operand, binary-first, binary-second, junction-first, junction-second}
+use Rattle.verdict.proofs.EvaluationLaws.{constant-arm, literal-arm, junction-arm, unary-arm, binary-arm, none-arm, unary-set, binary-set, settled-arm}
+use Rattle.verdict.proofs.EvaluationLaws.{no-set, each_turn, once-arm, ready-bound, ready-rule, unary-operand, binary-first, binary-second, junction-first}
+use Rattle.verdict.proofs.EvaluationLaws.{junction-second}
 use Rattle.verdict.proofs.evaluation.+modal_set_where_each_where_holds_where_modal.Goals as goal
 use Rattle.verdict.proofs.evaluation.+modal_set_where_each_where_holds_where_modal.Goals.{where_each-then-has, where_each-else-has}
 
@@ -111,22 +111,26 @@ where_holds-where_modal-requires-in-Binary t c =
 
 pub where_holds-returns-in-Constant : goal.where_holds-returns-in-Constant
 where_holds-returns-in-Constant t c =
-    constant-arm c.requires.0 _ (row c.entry-r.ensures c.kind_of-kind.ensures c.sort_of.ensures c.in-Constant.is) (c.is_first-first.ensures ∙ ap is_first c.kind_of-kind.ensures)
+    constant-arm c.requires.0 _ (row c.entry-r.ensures c.kind_of-kind.ensures c.sort_of.ensures c.in-Constant.is)
+    (c.is_first-first.ensures ∙ ap is_first c.kind_of-kind.ensures)
     c.all_or_none.ensures
 
 pub where_holds-returns-in-Atom : goal.where_holds-returns-in-Atom
 where_holds-returns-in-Atom t c =
-    literal-arm c.requires.0 _ (row c.entry-r.ensures c.kind_of-kind.ensures c.sort_of.ensures c.in-Atom.is) (c.is_first-first.ensures ∙ ap is_first c.kind_of-kind.ensures)
+    literal-arm c.requires.0 _ (row c.entry-r.ensures c.kind_of-kind.ensures c.sort_of.ensures c.in-Atom.is)
+    (c.is_first-first.ensures ∙ ap is_first c.kind_of-kind.ensures)
     c.where_literal.ensures
 
 pub where_holds-returns-then-settled : goal.where_holds-returns-then-settled
 where_holds-returns-then-settled t c =
-    settled-arm c.requires.0 _ _ _ _ (row c.entry-r.ensures c.kind_of-kind.ensures c.sort_of.ensures c.in-Junction.is) (c.is_first-first.ensures ∙ ap is_first c.kind_of-kind.ensures)
+    settled-arm c.requires.0 _ _ _ _ (row c.entry-r.ensures c.kind_of-kind.ensures c.sort_of.ensures c.in-Junction.is)
+    (c.is_first-first.ensures ∙ ap is_first c.kind_of-kind.ensures)
     c.where_holds-a.ensures c.if-settled.true c.settled.ensures
 
 pub where_holds-returns-else-settled : goal.where_holds-returns-else-settled
 where_holds-returns-else-settled t c =
-    junction-arm c.requires.0 _ _ _ _ _ (row c.entry-r.ensures c.kind_of-kind.ensures c.sort_of.ensures c.in-Junction.is) (c.is_first-first.ensures ∙ ap is_first c.kind_of-kind.ensures)
+    junction-arm c.requires.0 _ _ _ _ _ (row c.entry-r.ensures c.kind_of-kind.ensures c.sort_of.ensures c.in-Junction.is)
+    (c.is_first-first.ensures ∙ ap is_first c.kind_of-kind.ensures)
     c.where_holds-a.ensures c.where_holds-b.ensures c.joined.ensures
 
 pub where_holds-returns-in-Unary : goal.where_holds-returns-in-Unary

@@ -25,20 +25,24 @@ holds_from-requires-in-Binary t c = c.requires
 
 pub returns-in-Constant : goal.returns-in-Constant
 returns-in-Constant t c =
-    constant-truth c.requires (row c.entry-r.ensures c.kind_of-kind.ensures c.sort_of.ensures c.in-Constant.is) (c.is_first-first.ensures ∙ ap is_first c.kind_of-kind.ensures)
+    constant-truth c.requires (row c.entry-r.ensures c.kind_of-kind.ensures c.sort_of.ensures c.in-Constant.is)
+    (c.is_first-first.ensures ∙ ap is_first c.kind_of-kind.ensures)
 
 pub returns-in-Atom : goal.returns-in-Atom
 returns-in-Atom t c =
-    literal-truth c.requires (row c.entry-r.ensures c.kind_of-kind.ensures c.sort_of.ensures c.in-Atom.is) (c.is_first-first.ensures ∙ ap is_first c.kind_of-kind.ensures) c.atom_holds.ensures
+    literal-truth c.requires (row c.entry-r.ensures c.kind_of-kind.ensures c.sort_of.ensures c.in-Atom.is)
+    (c.is_first-first.ensures ∙ ap is_first c.kind_of-kind.ensures) c.atom_holds.ensures
 
 pub returns-then-a-first : goal.returns-then-a-first
 returns-then-a-first t c =
-    second-truth c.requires (row c.entry-r.ensures c.kind_of-kind.ensures c.sort_of.ensures c.in-Junction.is) (c.is_first-first.ensures ∙ ap is_first c.kind_of-kind.ensures)
+    second-truth c.requires (row c.entry-r.ensures c.kind_of-kind.ensures c.sort_of.ensures c.in-Junction.is)
+    (c.is_first-first.ensures ∙ ap is_first c.kind_of-kind.ensures)
     c.holds-a.ensures c.if-a-first.true c.holds.ensures
 
 pub returns-else-a-first : goal.returns-else-a-first
 returns-else-a-first t c =
-    settled-truth c.requires (row c.entry-r.ensures c.kind_of-kind.ensures c.sort_of.ensures c.in-Junction.is) (c.is_first-first.ensures ∙ ap is_first c.kind_of-kind.ensures)
+    settled-truth c.requires (row c.entry-r.ensures c.kind_of-kind.ensures c.sort_of.ensures c.in-Junction.is)
+    (c.is_first-first.ensures ∙ ap is_first c.kind_of-kind.ensures)
     c.holds-a.ensures c.if-a-first.false
 
 pub returns-in-Unary : goal.returns-in-Unary
