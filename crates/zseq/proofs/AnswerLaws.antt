@@ -1,14 +1,15 @@
 -- What the writing of the line shows: what was read is the input, and what was written is its line, which always has room.
 --
 -- Assumes nothing.
-use Rattle.std.proofs.Common.{ℕ, ◌+◌, ◌≤◌, ◌≡◌, List, ◌++◌, length, take, drop, OnOk, Result, Ok, Err, Option, arith, ap, ◌∙◌, subst, length-take}
+use Rattle.std.proofs.Common.{ℕ, ◌+◌, ◌≤◌, ◌≡◌, List, ◌++◌, length, take, drop, OnOk, Result, Ok, Err, Option, arith, ap, ◌∙◌, subst, length-take-le}
+use mathlib.Core.Logic.{⊎_map}
 use lib.Seq.{take-append_seam}
 use Rattle.std.specs.Io.KnownBytes.{Consumes, Appends}
 use Rattle.line.specs.Framing.{limit}
 use Rattle.line.specs.Line.{certificate_buffer, longest}
 use Rattle.reply.specs.Reply.{Replied}
 use Rattle.reply.proofs.Promise.{reply-whole}
-use Rattle.zseq.specs.Answered.{Answered}
+use Rattle.zseq.specs.Answered.{Answered, ReadWhole}
 
 -- The line is the front of its buffer.
 line-printed : {input before after out printed : List ℕ} {size : ℕ} → length before ≤ certificate_buffer → longest ≤ length out
@@ -17,15 +18,16 @@ line-printed {input} {before} {after} {out} {printed} {size} h room a =
     let found = reply-whole h room a in
     ap (take size) found.2 ∙ ap (λ (k : ℕ). take k (a.line ++ drop (length a.line) out)) found.1 ∙ take-append_seam a.line (drop (length a.line) out)
 
--- Where the writing does not fail, all of it was written.
+-- Where neither the reading nor the writing fails, what was taken is the whole input, and all of its line was written.
 pub written : {T E : Type 0} (r : Result T E) (had left held holds : Option (List ℕ)) (n : ℕ) (buffer : List ℕ) {before after out printed : List ℕ} {size : ℕ}
     → n ≤ length buffer → length buffer ≡ limit + 1 → length before ≡ certificate_buffer → length out ≡ longest
-    → Consumes had left (take n buffer) → Replied (take n buffer) before after out printed size
-    → OnOk r (Appends held holds (take size printed)) → OnOk r (Answered had left held holds)
-written (Ok v) had left held holds n buffer {before} {after} inside full sized long taken replied given = record {
+    → Consumes had left (take n buffer) → OnOk r (ReadWhole (length buffer) left n) → Replied (take n buffer) before after out printed size
+    → Appends held holds (take size printed) → OnOk r (Answered had left held holds)
+written (Ok v) had left held holds n buffer {before} {after} inside full sized long taken whole replied given = record {
   input = take n buffer;
   taken = taken;
-  most = omega (arith, length-take n buffer, inside, full);
+  most = omega (arith, read, full, inside);
+  whole = ⊎_map (λ e. read ∙ e ∙ full) (λ l. l) whole;
   before = before;
   sized = sized;
   after = after;
@@ -33,4 +35,7 @@ written (Ok v) had left held holds n buffer {before} {after} inside full sized l
   answers = replied.answers;
   given = subst (Appends held holds) (line-printed (omega (arith, sized)) (omega (arith, long)) replied) given;
 }
-written (Err e) had left held holds n buffer inside full sized long taken replied given = tt
+  where
+    read : length (take n buffer) ≡ n
+    read = length-take-le n buffer inside
+written (Err e) had left held holds n buffer inside full sized long taken whole replied given = tt

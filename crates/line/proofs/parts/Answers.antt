@@ -16,7 +16,7 @@ returns-then-input-image c =
 pub returns : goal.returns
 returns c =
     parts-read c.args.input.now c.word-image.result c.word-table.result _ _
-    (λ i. (c.shared_slice_known-1.given i).fits)
+    (λ i. (c.type_inv.input i).fits)
     c.if-input-gt-LIMIT.false
     c.word-image.ensures.is
     c.word-table.ensures.is

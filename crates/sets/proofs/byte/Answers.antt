@@ -5,4 +5,4 @@ use Rattle.sets.proofs.LawsBytes.{held-byte}
 use Rattle.sets.proofs.byte.Goals as goal
 
 pub returns : goal.returns
-returns c = held-byte _ _ _ (omega arith) refl (c.shared_slice_known-1.given c.args.at).fits
+returns c = held-byte _ _ _ (omega arith) refl (c.type_inv.bytes c.args.at).fits

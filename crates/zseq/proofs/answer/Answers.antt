@@ -5,5 +5,5 @@ use Rattle.zseq.proofs.answer.Goals as goal
 
 pub returns : goal.returns
 returns g c =
-    written c.write_all.result _ _ _ _ _ _ c.read_full-n.ensures.inside (search rules) (search rules) (search rules) c.read_full-n.ensures.bytes
-    c.reply-length.ensures c.write_all.ensures.bytes
+    written c.read_full-read.result _ _ _ _ _ _ c.read_full-read.ensures.inside (search rules) (search rules) (search rules) c.read_full-read.ensures.bytes
+    c.read_full-read.ensures.whole c.reply-length.ensures c.in_ok-write_all.ensures.bytes

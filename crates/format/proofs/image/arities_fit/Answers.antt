@@ -21,11 +21,13 @@ returns-then-arity-gt2 c =
     λ fits. omega (arith, arity-to _ _ (fits c.loop-q.q (omega (arith, c.byte-p.ensures))), c.byte-arity.ensures)
 
 pub loop-q-preserved : goal.loop-q-preserved
-loop-q-preserved c =
-    let byte2 = c.byte-arity in (
-      omega arith,
-      below_more _ _ c.loop-q.invariant.1 (record { there = omega arith; arity = one-or-two _ (omega (arith, byte2.ensures)) (omega (arith, byte2.ensures)) }),
-    )
+loop-q-preserved c = (
+  omega arith,
+  below_more _ _ c.loop-q.invariant.1 (record {
+    there = omega arith;
+    arity = one-or-two _ (omega (arith, c.byte-arity.ensures)) (omega (arith, c.byte-arity.ensures));
+  }),
+)
 
 pub returns : goal.returns
 returns c = λ q h. c.loop-q.invariant.1 q (omega (arith, c.byte-p.ensures))

@@ -15,12 +15,11 @@ overflow_add-first c =
     omega (arith, sets-for-le c.byte-n.result c.byte.result (omega (arith, c.byte-n.type_inv)), c.sets_for-first.ensures)
 
 pub loop-i-preserved : goal.loop-i-preserved
-loop-i-preserved c =
-    let byte2 = c.byte in (
-      omega arith,
-      first_more _ _ c.byte-n.ensures c.loop-i.invariant.1 (cc),
-      omega (arith, sets-for-le c.byte-n.result byte2.result (omega (arith, c.byte-n.type_inv)), c.sets_for-first.ensures),
-    )
+loop-i-preserved c = (
+  omega arith,
+  first_more _ _ c.byte-n.ensures c.loop-i.invariant.1 cc,
+  omega (arith, sets-for-le c.byte-n.result c.byte.result (omega (arith, c.byte-n.type_inv)), c.sets_for-first.ensures),
+)
 
 pub returns : goal.returns
 returns c = record { is = c.loop-i.invariant.1 ∙ ap (first_set _) (omega arith); small = omega arith }

@@ -13,39 +13,37 @@ overflow_cast-p c =
     record { fits = omega (arith, c.requires.1) }
 
 pub put-requires-8 : goal.put-requires-8
-put-requires-8 c =
-    let place9 = c in (
-      omega (
-        arith,
-        place9.requires.0,
-        c.put.ensures.size,
-        c.put-2.ensures.size,
-        c.put-3.ensures.size,
-        c.put-4.ensures.size,
-        c.put-5.ensures.size,
-        c.put-6.ensures.size,
-        c.put-7.ensures.size,
-      ),
-      (omega arith, omega (arith, c.if-e-ge-MOST.false)),
-    )
+put-requires-8 c = (
+  omega (
+    arith,
+    c.requires.0,
+    c.put.ensures.size,
+    c.put-2.ensures.size,
+    c.put-3.ensures.size,
+    c.put-4.ensures.size,
+    c.put-5.ensures.size,
+    c.put-6.ensures.size,
+    c.put-7.ensures.size,
+  ),
+  (omega arith, omega (arith, c.if-e-ge-MOST.false)),
+)
 
 pub put-requires-9 : goal.put-requires-9
-put-requires-9 c =
-    let place10 = c in (
-      omega (
-        arith,
-        place10.requires.0,
-        c.put.ensures.size,
-        c.put-2.ensures.size,
-        c.put-3.ensures.size,
-        c.put-4.ensures.size,
-        c.put-5.ensures.size,
-        c.put-6.ensures.size,
-        c.put-7.ensures.size,
-        c.put-8.ensures.size,
-      ),
-      (omega arith, omega (arith, c.if-e-ge-MOST.false)),
-    )
+put-requires-9 c = (
+  omega (
+    arith,
+    c.requires.0,
+    c.put.ensures.size,
+    c.put-2.ensures.size,
+    c.put-3.ensures.size,
+    c.put-4.ensures.size,
+    c.put-5.ensures.size,
+    c.put-6.ensures.size,
+    c.put-7.ensures.size,
+    c.put-8.ensures.size,
+  ),
+  (omega arith, omega (arith, c.if-e-ge-MOST.false)),
+)
 
 pub returns : goal.returns
 returns c =

@@ -12,7 +12,7 @@ unfolding hex
 loop-i-init c = (omega arith, written_none _ _ (omega arith))
 
 pub hex_digit-requires : goal.hex_digit-requires
-hex_digit-requires c = omega (arith, c.shared_slice_known-in-loop-i-1.given c.loop-i.i)
+hex_digit-requires c = omega (arith, c.type_inv.bytes c.loop-i.i)
 
 pub put-middle-requires : goal.put-middle-requires
 put-middle-requires c = omega (arith, (hex-room c.args.bytes.now c.loop-i.i _ _ _ _ c.loop-i-test.true c.requires c.loop-i.invariant.1))

@@ -1,6 +1,6 @@
 -- `verdict::evaluation::where_holds`, `where_modal`, `where_each` and `modal_set` meet their contracts. The measure is four times the entry's
 -- number, and as much more as each of them stands above `modal_set`, which goes on to lower entries.
-use Prim.Native.Nat.{◌+◌, ◌*◌, ◌-◌, ◌≤◌}
+use Prim.Native.Nat.{◌+◌, ◌*◌, ◌≤◌}
 use Rattle.sets.specs.Number.{number}
 use Rattle.verdict.specs.Evaluation.{Collects, modal_at}
 use Rattle.verdict.proofs.evaluation.+modal_set_where_each_where_holds_where_modal.Given as goal
@@ -19,6 +19,3 @@ decreases-where_modal l = 4 * l.e + 2
 
 abbrev pub invariant-where_each-loop-s : goal.invariant-where_each-loop-s
 invariant-where_each-loop-s l = (l.s ≤ l.n) × Collects l.s (modal_at l.image l.table l.e l.env l.x) (number l.found)
-
-abbrev pub decreases-where_each-loop-s : goal.decreases-where_each-loop-s
-decreases-where_each-loop-s l = l.n - l.s
