@@ -2,6 +2,7 @@
 -- marked cases (`Example`).
 pub mod ConditionLaws
 pub mod StepLaws
+pub mod TakenLaws
 pub mod ToldLaws
 pub mod ReadingLaws
 pub mod WalkLaws

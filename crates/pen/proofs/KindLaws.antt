@@ -1,7 +1,7 @@
 -- The formula of an entry in hand, by its kind: the fields that are read of it, what it is made of, and its steps in terms of those of its operands.
 --
 --     Fields, fields                     the fields of the prepared entry are those of the record
---     kind-told                          the kind that its number gives is the kind in hand
+--     kind-told, in_arm                  the kind that its number gives is the kind in hand
 --     rule-of                            the entry keeps the rules of its kind
 --     leaf-steps ..                      the steps, and where the formula holds what its operands have
 use Prim.Native.Nat.{ℕ, zero, suc, ◌<◌}
@@ -113,6 +113,11 @@ module _ {image table next entries : List ℕ} {side e : ℕ} {env : Slots} wher
       ⊎_elim (λ q. record { holding = h; kind = q })
       (λ q. absurd (rule-of {k = K.NoKind} (record { holding = h; kind = q })))
       (number-back (kind_on side (kind_of (record_at table e).kind)) j (ap kind_of (sym f.kind) ∙ sym k-is ∙ told))
+
+  -- So it is in an arm of the code, where the entry was read and its number gave the kind.
+  pub in_arm : {p : Entry} {k j : Kind} → Holding image table next entries side e env → HeldEntry entries e p → k ≡ kind_of p.kind → k ≡ j
+      → InHand image table next entries side e env j
+  in_arm h held k-is told = kind-told h (fields h held) k-is told
 
   -- ---- its formula
 

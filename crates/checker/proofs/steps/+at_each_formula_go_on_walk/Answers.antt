@@ -4,8 +4,9 @@ use mathlib.Core.Path.{refl, ap, ◌∙◌}
 use Rattle.sets.proofs.LawsFits.{number_lt}
 use Rattle.sets.proofs.LawsWalk.{walk-falls}
 use Rattle.checker.proofs.EachLaws.{turn-of}
-use Rattle.checker.proofs.ArmLaws.{room, a-is, a-bound, handed, onto, a-operand, b-operand, walking, stage-room, arm-of, arm-kind, arm-ruled, arm-inside}
-use Rattle.checker.proofs.ArmLaws.{arm-fails, arm-proves, next-is, b-bound, arm-ends, head-missing, head-wrong, start_is, from-its-start}
+use Rattle.checker.proofs.ArmLaws.{room, a-is, a-bound, handed, onto, a-operand, b-operand, walking, stage-room, arm-of, arm-ruled, arm-inside}
+use Rattle.checker.proofs.ArmLaws.{next-is, b-bound, head-missing, head-wrong, start_is, from-its-start}
+use Rattle.checker.proofs.TakenLaws.{refused, taken, finished, no_walk}
 use Rattle.checker.proofs.LoopLaws.{at-start, at_stage, at_next, at-end, at_stops, rest-as, later-rest, on-rest, going_start, going-stage, going-grows}
 use Rattle.checker.proofs.LoopLaws.{going_next, going_end, going-stops}
 use Rattle.sets.specs.Number.{number}
@@ -77,27 +78,15 @@ walk-field-requires t c = (omega arith, room c.requires.walk.hand)
 
 pub walk-returns-in-True : goal.walk-returns-in-True
 walk-returns-in-True t c =
-    record {
-      is = λ {image} {table} {side} w.
-          let arm = arm-of c.args.steps.now w.hand c.args.at c.field.ensures c.read_head.ensures c.in-Step.is c.in-True.is in
-          absurd (omega (arith, w.deep, arm-kind arm));
-    }
+    no_walk c.field.ensures c.read_head.ensures c.in-Step.is c.in-True.is (number c.args.met) c.args.s (omega arith)
 
 pub walk-returns-in-Holds : goal.walk-returns-in-Holds
 walk-returns-in-Holds t c =
-    record {
-      is = λ {image} {table} {side} w.
-          let arm = arm-of c.args.steps.now w.hand c.args.at c.field.ensures c.read_head.ensures c.in-Step.is c.in-Holds.is in
-          absurd (omega (arith, w.deep, arm-kind arm));
-    }
+    no_walk c.field.ensures c.read_head.ensures c.in-Step.is c.in-Holds.is (number c.args.met) c.args.s (omega arith)
 
 pub walk-returns-in-HoldsNot : goal.walk-returns-in-HoldsNot
 walk-returns-in-HoldsNot t c =
-    record {
-      is = λ {image} {table} {side} w.
-          let arm = arm-of c.args.steps.now w.hand c.args.at c.field.ensures c.read_head.ensures c.in-Step.is c.in-HoldsNot.is in
-          absurd (omega (arith, w.deep, arm-kind arm));
-    }
+    no_walk c.field.ensures c.read_head.ensures c.in-Step.is c.in-HoldsNot.is (number c.args.met) c.args.s (omega arith)
 
 pub walk-field-a-requires : goal.walk-field-a-requires
 walk-field-a-requires t c = (omega arith, room c.requires.walk.hand)
@@ -111,12 +100,10 @@ walk-formula-here-requires t c =
 
 pub walk-returns-then-steps-here : goal.walk-returns-then-steps-here
 walk-returns-then-steps-here t c =
-    record {
-      is = λ {image} {table} {side} w.
-          let arm = arm-of c.args.steps.now w.hand c.args.at c.field.ensures c.read_head.ensures c.in-Step.is c.in-And.is in
-          let op = a-operand c.args.steps.now w.hand (arm-ruled arm).a c.field-a.ensures in
-          arm-proves arm (number c.args.met) c.args.s refl (stops _ _ c.if-steps-here.true (op.reads _ (c.formula-here.ensures.is op.hand)));
-    }
+    taken c.field.ensures c.read_head.ensures c.in-Step.is c.in-And.is (number c.args.met) c.args.s
+    (λ image table side w arm.
+    let op = a-operand c.args.steps.now w.hand (arm-ruled arm).a c.field-a.ensures in
+    (refl, stops _ _ c.if-steps-here.true (op.reads _ (c.formula-here.ensures.is op.hand))))
 
 pub walk-field-b-requires : goal.walk-field-b-requires
 walk-field-b-requires t c =
@@ -131,14 +118,11 @@ walk-formula-requires t c =
 
 pub walk-returns-in-And : goal.walk-returns-in-And
 walk-returns-in-And t c =
-    record {
-      is = λ {image} {table} {side} w.
-          let arm = arm-of c.args.steps.now w.hand c.args.at c.field.ensures c.read_head.ensures c.in-Step.is c.in-And.is in
-          let first = a-operand c.args.steps.now w.hand (arm-ruled arm).a c.field-a.ensures in
-          let second = b-operand c.args.steps.now w.hand (arm-ruled arm).b c.field-b.ensures in
-          arm-proves arm (number c.args.met) c.args.s refl
-          (goes _ _ c.if-steps-here.false (first.reads _ (c.formula-here.ensures.is first.hand)) (second.reads _ (c.formula.ensures.is second.hand)));
-    }
+    taken c.field.ensures c.read_head.ensures c.in-Step.is c.in-And.is (number c.args.met) c.args.s
+    (λ image table side w arm.
+    let first = a-operand c.args.steps.now w.hand (arm-ruled arm).a c.field-a.ensures in
+    let second = b-operand c.args.steps.now w.hand (arm-ruled arm).b c.field-b.ensures in
+    (refl, goes _ _ c.if-steps-here.false (first.reads _ (c.formula-here.ensures.is first.hand)) (second.reads _ (c.formula.ensures.is second.hand))))
 
 pub walk-field-a-requires-in-OrLeft : goal.walk-field-a-requires-in-OrLeft
 walk-field-a-requires-in-OrLeft t c = (omega arith, room c.requires.walk.hand)
@@ -152,12 +136,10 @@ walk-formula-requires-in-OrLeft t c =
 
 pub walk-returns-in-OrLeft : goal.walk-returns-in-OrLeft
 walk-returns-in-OrLeft t c =
-    record {
-      is = λ {image} {table} {side} w.
-          let arm = arm-of c.args.steps.now w.hand c.args.at c.field.ensures c.read_head.ensures c.in-Step.is c.in-OrLeft.is in
-          let op = a-operand c.args.steps.now w.hand (arm-ruled arm).a c.field-a-in-OrLeft.ensures in
-          arm-proves arm (number c.args.met) c.args.s refl (op.reads _ (c.formula-in-OrLeft.ensures.is op.hand));
-    }
+    taken c.field.ensures c.read_head.ensures c.in-Step.is c.in-OrLeft.is (number c.args.met) c.args.s
+    (λ image table side w arm.
+    let op = a-operand c.args.steps.now w.hand (arm-ruled arm).a c.field-a-in-OrLeft.ensures in
+    (refl, op.reads _ (c.formula-in-OrLeft.ensures.is op.hand)))
 
 pub walk-field-b-requires-in-OrRight : goal.walk-field-b-requires-in-OrRight
 walk-field-b-requires-in-OrRight t c = (omega arith, room c.requires.walk.hand)
@@ -171,12 +153,10 @@ walk-formula-requires-in-OrRight t c =
 
 pub walk-returns-in-OrRight : goal.walk-returns-in-OrRight
 walk-returns-in-OrRight t c =
-    record {
-      is = λ {image} {table} {side} w.
-          let arm = arm-of c.args.steps.now w.hand c.args.at c.field.ensures c.read_head.ensures c.in-Step.is c.in-OrRight.is in
-          let op = b-operand c.args.steps.now w.hand (arm-ruled arm).b c.field-b-in-OrRight.ensures in
-          arm-proves arm (number c.args.met) c.args.s refl (op.reads _ (c.formula-in-OrRight.ensures.is op.hand));
-    }
+    taken c.field.ensures c.read_head.ensures c.in-Step.is c.in-OrRight.is (number c.args.met) c.args.s
+    (λ image table side w arm.
+    let op = b-operand c.args.steps.now w.hand (arm-ruled arm).b c.field-b-in-OrRight.ensures in
+    (refl, op.reads _ (c.formula-in-OrRight.ensures.is op.hand)))
 
 pub walk-at_each-requires : goal.walk-at_each-requires
 walk-at_each-requires t c =
@@ -186,20 +166,15 @@ walk-at_each-requires t c =
 
 pub walk-returns-in-Ax : goal.walk-returns-in-Ax
 walk-returns-in-Ax t c =
-    record {
-      is = λ {image} {table} {side} w.
-          let arm = arm-of c.args.steps.now w.hand c.args.at c.field.ensures c.read_head.ensures c.in-Step.is c.in-Ax.is in
-          arm-proves arm (number c.args.met) c.args.s refl (c.at_each.ensures.is w);
-    }
+    taken c.field.ensures c.read_head.ensures c.in-Step.is c.in-Ax.is (number c.args.met) c.args.s
+    (λ image table side w arm.
+    (refl, c.at_each.ensures.is w))
 
 pub walk-returns-then-not-leads : goal.walk-returns-then-not-leads
 walk-returns-then-not-leads t c =
-    record {
-      is = λ {image} {table} {side} w.
-          let arm = arm-of c.args.steps.now w.hand c.args.at c.field.ensures c.read_head.ensures c.in-Step.is c.in-Ex.is in
-          arm-fails arm (number c.args.met) c.args.s (chosen-fails c.leads.result true (next-is _ w c.index-k.ensures c.leads.ensures) c.if-not-leads.true)
-          c.fails.ensures;
-    }
+    refused c.field.ensures c.read_head.ensures c.in-Step.is c.in-Ex.is (number c.args.met) c.args.s
+    (λ image table side w. chosen-fails c.leads.result true (next-is _ w c.index-k.ensures c.leads.ensures) c.if-not-leads.true)
+    c.fails.ensures
 
 pub walk-field-a-requires-in-Ex : goal.walk-field-a-requires-in-Ex
 walk-field-a-requires-in-Ex t c =
@@ -219,25 +194,21 @@ walk-formula-requires-in-Ex t c =
 
 pub walk-returns-in-Ex : goal.walk-returns-in-Ex
 walk-returns-in-Ex t c =
-    record {
-      is = λ {image} {table} {side} w.
-          let arm = arm-of c.args.steps.now w.hand c.args.at c.field.ensures c.read_head.ensures c.in-Step.is c.in-Ex.is in
-          let op = a-bound c.args.steps.now w.hand (arm-ruled arm).a c.field-a-in-Ex.ensures c.x_at-bound.ensures
-          (onto _ w (chosen-next c.leads.result (next-is _ w c.index-k.ensures c.leads.ensures) c.if-not-leads.false)).stage in
-          arm-proves arm (number c.args.met) c.args.s (chosen-holds c.leads.result (next-is _ w c.index-k.ensures c.leads.ensures) c.if-not-leads.false refl)
-          (op.reads _ (c.formula-in-Ex.ensures.is op.hand));
-    }
+    taken c.field.ensures c.read_head.ensures c.in-Step.is c.in-Ex.is (number c.args.met) c.args.s
+    (λ image table side w arm.
+    let op = a-bound c.args.steps.now w.hand (arm-ruled arm).a c.field-a-in-Ex.ensures c.x_at-bound.ensures
+    (onto _ w (chosen-next c.leads.result (next-is _ w c.index-k.ensures c.leads.ensures) c.if-not-leads.false)).stage in (
+      chosen-holds c.leads.result (next-is _ w c.index-k.ensures c.leads.ensures) c.if-not-leads.false refl,
+      op.reads _ (c.formula-in-Ex.ensures.is op.hand),
+    ))
 
 -- ---- `walk`, the rules for AF and EG
 
 pub walk-returns-then-has : goal.walk-returns-then-has
 walk-returns-then-has t c =
-    record {
-      is = λ {image} {table} {side} w.
-          let arm = arm-of c.args.steps.now w.hand c.args.at c.field.ensures c.read_head.ensures c.in-Step.is c.in-AfNow.is in
-          arm-fails arm (number c.args.met) c.args.s (off-fails (number c.args.met) c.index-k.ensures c.has.result c.has.ensures c.if-has.true)
-          c.fails-then-has.ensures;
-    }
+    refused c.field.ensures c.read_head.ensures c.in-Step.is c.in-AfNow.is (number c.args.met) c.args.s
+    (λ image table side w. off-fails (number c.args.met) c.index-k.ensures c.has.result c.has.ensures c.if-has.true)
+    c.fails-then-has.ensures
 
 pub walk-field-a-requires-in-AfNow : goal.walk-field-a-requires-in-AfNow
 walk-field-a-requires-in-AfNow t c =
@@ -256,43 +227,31 @@ walk-formula-requires-in-AfNow t c =
 
 pub walk-returns-in-AfNow : goal.walk-returns-in-AfNow
 walk-returns-in-AfNow t c =
-    record {
-      is = λ {image} {table} {side} w.
-          let arm = arm-of c.args.steps.now w.hand c.args.at c.field.ensures c.read_head.ensures c.in-Step.is c.in-AfNow.is in
-          let op = a-bound c.args.steps.now w.hand (arm-ruled arm).a c.field-a-in-AfNow.ensures c.x_at-bound-in-AfNow.ensures w.stage in
-          arm-proves arm (number c.args.met) c.args.s (off-holds (number c.args.met) c.index-k.ensures c.has.result c.has.ensures c.if-has.false)
-          (op.reads _ (c.formula-in-AfNow.ensures.is op.hand));
-    }
+    taken c.field.ensures c.read_head.ensures c.in-Step.is c.in-AfNow.is (number c.args.met) c.args.s
+    (λ image table side w arm.
+    let op = a-bound c.args.steps.now w.hand (arm-ruled arm).a c.field-a-in-AfNow.ensures c.x_at-bound-in-AfNow.ensures w.stage in (
+      off-holds (number c.args.met) c.index-k.ensures c.has.result c.has.ensures c.if-has.false,
+      op.reads _ (c.formula-in-AfNow.ensures.is op.hand),
+    ))
 
 pub walk-returns-then-has-2 : goal.walk-returns-then-has-2
 walk-returns-then-has-2 t c =
-    record {
-      is = λ {image} {table} {side} w.
-          let arm = arm-of c.args.steps.now w.hand c.args.at c.field.ensures c.read_head.ensures c.in-Step.is c.in-AfLater.is in
-          arm-fails arm (number c.args.met) c.args.s
-          (off-fails (number c.args.met) c.index-k.ensures c.has-in-AfLater.result c.has-in-AfLater.ensures c.if-has-2.true)
-          c.fails-then-has-2.ensures;
-    }
+    refused c.field.ensures c.read_head.ensures c.in-Step.is c.in-AfLater.is (number c.args.met) c.args.s
+    (λ image table side w. off-fails (number c.args.met) c.index-k.ensures c.has-in-AfLater.result c.has-in-AfLater.ensures c.if-has-2.true)
+    c.fails-then-has-2.ensures
 
 pub walk-returns-then-has-3 : goal.walk-returns-then-has-3
 walk-returns-then-has-3 t c =
-    record {
-      is = λ {image} {table} {side} w.
-          let arm = arm-of c.args.steps.now w.hand c.args.at c.field.ensures c.read_head.ensures c.in-Step.is c.in-EgOn.is in
-          arm-fails arm (number c.args.met) c.args.s
-          (besides-fails ((graph_of image).next c.args.s c.in-EgOn.c)
-          (off-fails (number c.args.met) c.index-k.ensures c.has-in-EgOn.result c.has-in-EgOn.ensures c.if-has-3.true)) c.fails-then-has-3.ensures;
-    }
+    refused c.field.ensures c.read_head.ensures c.in-Step.is c.in-EgOn.is (number c.args.met) c.args.s
+    (λ image table side w. besides-fails ((graph_of image).next c.args.s c.in-EgOn.c)
+        (off-fails (number c.args.met) c.index-k.ensures c.has-in-EgOn.result c.has-in-EgOn.ensures c.if-has-3.true))
+    c.fails-then-has-3.ensures
 
 pub walk-returns-then-not-leads-2 : goal.walk-returns-then-not-leads-2
 walk-returns-then-not-leads-2 t c =
-    record {
-      is = λ {image} {table} {side} w.
-          let arm = arm-of c.args.steps.now w.hand c.args.at c.field.ensures c.read_head.ensures c.in-Step.is c.in-EgOn.is in
-          arm-fails arm (number c.args.met) c.args.s
-          (chosen-fails c.leads-in-EgOn.result _ (next-is _ w c.index-k.ensures c.leads-in-EgOn.ensures) c.if-not-leads-2.true)
-          c.fails-then-not-leads-2.ensures;
-    }
+    refused c.field.ensures c.read_head.ensures c.in-Step.is c.in-EgOn.is (number c.args.met) c.args.s
+    (λ image table side w. chosen-fails c.leads-in-EgOn.result _ (next-is _ w c.index-k.ensures c.leads-in-EgOn.ensures) c.if-not-leads-2.true)
+    c.fails-then-not-leads-2.ensures
 
 pub walk-go_on-requires : goal.walk-go_on-requires
 walk-go_on-requires t c =
@@ -309,45 +268,31 @@ walk-go_on-requires t c =
 
 pub walk-returns-in-EgOn : goal.walk-returns-in-EgOn
 walk-returns-in-EgOn t c =
-    record {
-      is = λ {image} {table} {side} w.
-          let arm = arm-of c.args.steps.now w.hand c.args.at c.field.ensures c.read_head.ensures c.in-Step.is c.in-EgOn.is in
-          arm-proves arm (number c.args.met) c.args.s
-          (chosen-holds c.leads-in-EgOn.result (next-is _ w c.index-k.ensures c.leads-in-EgOn.ensures) c.if-not-leads-2.false
-          (off-holds (number c.args.met) c.index-k.ensures c.has-in-EgOn.result c.has-in-EgOn.ensures c.if-has-3.false))
-          (c.go_on.ensures.is w (chosen-next c.leads-in-EgOn.result (next-is _ w c.index-k.ensures c.leads-in-EgOn.ensures) c.if-not-leads-2.false));
-    }
+    taken c.field.ensures c.read_head.ensures c.in-Step.is c.in-EgOn.is (number c.args.met) c.args.s
+    (λ image table side w arm. (
+      chosen-holds c.leads-in-EgOn.result (next-is _ w c.index-k.ensures c.leads-in-EgOn.ensures) c.if-not-leads-2.false
+          (off-holds (number c.args.met) c.index-k.ensures c.has-in-EgOn.result c.has-in-EgOn.ensures c.if-has-3.false),
+      c.go_on.ensures.is w (chosen-next c.leads-in-EgOn.result (next-is _ w c.index-k.ensures c.leads-in-EgOn.ensures) c.if-not-leads-2.false),
+    ))
 
 pub walk-returns-then-not-has : goal.walk-returns-then-not-has
 walk-returns-then-not-has t c =
-    record {
-      is = λ {image} {table} {side} w.
-          let arm = arm-of c.args.steps.now w.hand c.args.at c.field.ensures c.read_head.ensures c.in-Step.is c.in-EgMerge.is in
-          arm-fails arm (number c.args.met) c.args.s
-          (on-fails (number c.args.met) c.index-k.ensures c.has-in-EgMerge.result c.has-in-EgMerge.ensures c.if-not-has.true)
-          c.fails-then-not-has.ensures;
-    }
+    refused c.field.ensures c.read_head.ensures c.in-Step.is c.in-EgMerge.is (number c.args.met) c.args.s
+    (λ image table side w. on-fails (number c.args.met) c.index-k.ensures c.has-in-EgMerge.result c.has-in-EgMerge.ensures c.if-not-has.true)
+    c.fails-then-not-has.ensures
 
 pub walk-returns-in-EgMerge : goal.walk-returns-in-EgMerge
 walk-returns-in-EgMerge t c =
-    record {
-      is = λ {image} {table} {side} w.
-          let arm = arm-of c.args.steps.now w.hand c.args.at c.field.ensures c.read_head.ensures c.in-Step.is c.in-EgMerge.is in
-          arm-ends arm (number c.args.met) c.args.s _
-          (on-holds (number c.args.met) c.index-k.ensures c.has-in-EgMerge.result c.has-in-EgMerge.ensures c.if-not-has.false) refl;
-    }
+    finished c.field.ensures c.read_head.ensures c.in-Step.is c.in-EgMerge.is (number c.args.met) c.args.s
+    (λ image table side w. (on-holds (number c.args.met) c.index-k.ensures c.has-in-EgMerge.result c.has-in-EgMerge.ensures c.if-not-has.false, refl))
 
 -- ---- `walk`, the rules for AR and EU
 
 pub walk-returns-then-has-4 : goal.walk-returns-then-has-4
 walk-returns-then-has-4 t c =
-    record {
-      is = λ {image} {table} {side} w.
-          let arm = arm-of c.args.steps.now w.hand c.args.at c.field.ensures c.read_head.ensures c.in-Step.is c.in-ArRelease.is in
-          arm-fails arm (number c.args.met) c.args.s
-          (off-fails (number c.args.met) c.index-k.ensures c.has-in-ArRelease.result c.has-in-ArRelease.ensures c.if-has-4.true)
-          c.fails-then-has-4.ensures;
-    }
+    refused c.field.ensures c.read_head.ensures c.in-Step.is c.in-ArRelease.is (number c.args.met) c.args.s
+    (λ image table side w. off-fails (number c.args.met) c.index-k.ensures c.has-in-ArRelease.result c.has-in-ArRelease.ensures c.if-has-4.true)
+    c.fails-then-has-4.ensures
 
 pub walk-field-a-requires-in-ArRelease : goal.walk-field-a-requires-in-ArRelease
 walk-field-a-requires-in-ArRelease t c =
@@ -366,14 +311,12 @@ walk-formula-here-requires-in-ArRelease t c =
 
 pub walk-returns-then-steps-here-2 : goal.walk-returns-then-steps-here-2
 walk-returns-then-steps-here-2 t c =
-    record {
-      is = λ {image} {table} {side} w.
-          let arm = arm-of c.args.steps.now w.hand c.args.at c.field.ensures c.read_head.ensures c.in-Step.is c.in-ArRelease.is in
-          let op = a-bound c.args.steps.now w.hand (arm-ruled arm).a c.field-a-in-ArRelease.ensures c.x_at-bound-in-ArRelease.ensures w.stage in
-          arm-proves arm (number c.args.met) c.args.s
-          (off-holds (number c.args.met) c.index-k.ensures c.has-in-ArRelease.result c.has-in-ArRelease.ensures c.if-has-4.false)
-          (stops _ _ c.if-steps-here-2.true (op.reads _ (c.formula-here-in-ArRelease.ensures.is op.hand)));
-    }
+    taken c.field.ensures c.read_head.ensures c.in-Step.is c.in-ArRelease.is (number c.args.met) c.args.s
+    (λ image table side w arm.
+    let op = a-bound c.args.steps.now w.hand (arm-ruled arm).a c.field-a-in-ArRelease.ensures c.x_at-bound-in-ArRelease.ensures w.stage in (
+      off-holds (number c.args.met) c.index-k.ensures c.has-in-ArRelease.result c.has-in-ArRelease.ensures c.if-has-4.false,
+      stops _ _ c.if-steps-here-2.true (op.reads _ (c.formula-here-in-ArRelease.ensures.is op.hand)),
+    ))
 
 pub walk-field-b-requires-in-ArRelease : goal.walk-field-b-requires-in-ArRelease
 walk-field-b-requires-in-ArRelease t c =
@@ -392,26 +335,20 @@ walk-formula-requires-in-ArRelease t c =
 
 pub walk-returns-in-ArRelease : goal.walk-returns-in-ArRelease
 walk-returns-in-ArRelease t c =
-    record {
-      is = λ {image} {table} {side} w.
-          let arm = arm-of c.args.steps.now w.hand c.args.at c.field.ensures c.read_head.ensures c.in-Step.is c.in-ArRelease.is in
-          let first = a-bound c.args.steps.now w.hand (arm-ruled arm).a c.field-a-in-ArRelease.ensures c.x_at-bound-in-ArRelease.ensures w.stage in
-          let second = b-bound c.args.steps.now w.hand (arm-ruled arm).b c.field-b-in-ArRelease.ensures c.y_at-bound.ensures w.stage in
-          arm-proves arm (number c.args.met) c.args.s
-          (off-holds (number c.args.met) c.index-k.ensures c.has-in-ArRelease.result c.has-in-ArRelease.ensures c.if-has-4.false)
-          (goes _ _ c.if-steps-here-2.false (first.reads _ (c.formula-here-in-ArRelease.ensures.is first.hand))
-          (second.reads _ (c.formula-in-ArRelease.ensures.is second.hand)));
-    }
+    taken c.field.ensures c.read_head.ensures c.in-Step.is c.in-ArRelease.is (number c.args.met) c.args.s
+    (λ image table side w arm.
+    let first = a-bound c.args.steps.now w.hand (arm-ruled arm).a c.field-a-in-ArRelease.ensures c.x_at-bound-in-ArRelease.ensures w.stage in
+    let second = b-bound c.args.steps.now w.hand (arm-ruled arm).b c.field-b-in-ArRelease.ensures c.y_at-bound.ensures w.stage in (
+      off-holds (number c.args.met) c.index-k.ensures c.has-in-ArRelease.result c.has-in-ArRelease.ensures c.if-has-4.false,
+      goes _ _ c.if-steps-here-2.false (first.reads _ (c.formula-here-in-ArRelease.ensures.is first.hand))
+          (second.reads _ (c.formula-in-ArRelease.ensures.is second.hand)),
+    ))
 
 pub walk-returns-then-has-5 : goal.walk-returns-then-has-5
 walk-returns-then-has-5 t c =
-    record {
-      is = λ {image} {table} {side} w.
-          let arm = arm-of c.args.steps.now w.hand c.args.at c.field.ensures c.read_head.ensures c.in-Step.is c.in-ArOn.is in
-          arm-fails arm (number c.args.met) c.args.s
-          (off-fails (number c.args.met) c.index-k.ensures c.has-in-ArOn.result c.has-in-ArOn.ensures c.if-has-5.true)
-          c.fails-then-has-5.ensures;
-    }
+    refused c.field.ensures c.read_head.ensures c.in-Step.is c.in-ArOn.is (number c.args.met) c.args.s
+    (λ image table side w. off-fails (number c.args.met) c.index-k.ensures c.has-in-ArOn.result c.has-in-ArOn.ensures c.if-has-5.true)
+    c.fails-then-has-5.ensures
 
 pub walk-field-b-requires-in-ArOn : goal.walk-field-b-requires-in-ArOn
 walk-field-b-requires-in-ArOn t c =
@@ -430,32 +367,20 @@ walk-formula-from-requires t c =
 
 pub walk-returns-then-not-has-2 : goal.walk-returns-then-not-has-2
 walk-returns-then-not-has-2 t c =
-    record {
-      is = λ {image} {table} {side} w.
-          let arm = arm-of c.args.steps.now w.hand c.args.at c.field.ensures c.read_head.ensures c.in-Step.is c.in-ArMerge.is in
-          arm-fails arm (number c.args.met) c.args.s
-          (on-fails (number c.args.met) c.index-k.ensures c.has-in-ArMerge.result c.has-in-ArMerge.ensures c.if-not-has-2.true)
-          c.fails-then-not-has-2.ensures;
-    }
+    refused c.field.ensures c.read_head.ensures c.in-Step.is c.in-ArMerge.is (number c.args.met) c.args.s
+    (λ image table side w. on-fails (number c.args.met) c.index-k.ensures c.has-in-ArMerge.result c.has-in-ArMerge.ensures c.if-not-has-2.true)
+    c.fails-then-not-has-2.ensures
 
 pub walk-returns-in-ArMerge : goal.walk-returns-in-ArMerge
 walk-returns-in-ArMerge t c =
-    record {
-      is = λ {image} {table} {side} w.
-          let arm = arm-of c.args.steps.now w.hand c.args.at c.field.ensures c.read_head.ensures c.in-Step.is c.in-ArMerge.is in
-          arm-ends arm (number c.args.met) c.args.s _
-          (on-holds (number c.args.met) c.index-k.ensures c.has-in-ArMerge.result c.has-in-ArMerge.ensures c.if-not-has-2.false) refl;
-    }
+    finished c.field.ensures c.read_head.ensures c.in-Step.is c.in-ArMerge.is (number c.args.met) c.args.s
+    (λ image table side w. (on-holds (number c.args.met) c.index-k.ensures c.has-in-ArMerge.result c.has-in-ArMerge.ensures c.if-not-has-2.false, refl))
 
 pub walk-returns-then-has-6 : goal.walk-returns-then-has-6
 walk-returns-then-has-6 t c =
-    record {
-      is = λ {image} {table} {side} w.
-          let arm = arm-of c.args.steps.now w.hand c.args.at c.field.ensures c.read_head.ensures c.in-Step.is c.in-EuNow.is in
-          arm-fails arm (number c.args.met) c.args.s
-          (off-fails (number c.args.met) c.index-k.ensures c.has-in-EuNow.result c.has-in-EuNow.ensures c.if-has-6.true)
-          c.fails-then-has-6.ensures;
-    }
+    refused c.field.ensures c.read_head.ensures c.in-Step.is c.in-EuNow.is (number c.args.met) c.args.s
+    (λ image table side w. off-fails (number c.args.met) c.index-k.ensures c.has-in-EuNow.result c.has-in-EuNow.ensures c.if-has-6.true)
+    c.fails-then-has-6.ensures
 
 pub walk-field-b-requires-in-EuNow : goal.walk-field-b-requires-in-EuNow
 walk-field-b-requires-in-EuNow t c =
@@ -474,34 +399,25 @@ walk-formula-requires-in-EuNow t c =
 
 pub walk-returns-in-EuNow : goal.walk-returns-in-EuNow
 walk-returns-in-EuNow t c =
-    record {
-      is = λ {image} {table} {side} w.
-          let arm = arm-of c.args.steps.now w.hand c.args.at c.field.ensures c.read_head.ensures c.in-Step.is c.in-EuNow.is in
-          let op = b-bound c.args.steps.now w.hand (arm-ruled arm).b c.field-b-in-EuNow.ensures c.y_at-bound-in-EuNow.ensures w.stage in
-          arm-proves arm (number c.args.met) c.args.s
-          (off-holds (number c.args.met) c.index-k.ensures c.has-in-EuNow.result c.has-in-EuNow.ensures c.if-has-6.false)
-          (op.reads _ (c.formula-in-EuNow.ensures.is op.hand));
-    }
+    taken c.field.ensures c.read_head.ensures c.in-Step.is c.in-EuNow.is (number c.args.met) c.args.s
+    (λ image table side w arm.
+    let op = b-bound c.args.steps.now w.hand (arm-ruled arm).b c.field-b-in-EuNow.ensures c.y_at-bound-in-EuNow.ensures w.stage in (
+      off-holds (number c.args.met) c.index-k.ensures c.has-in-EuNow.result c.has-in-EuNow.ensures c.if-has-6.false,
+      op.reads _ (c.formula-in-EuNow.ensures.is op.hand),
+    ))
 
 pub walk-returns-then-has-7 : goal.walk-returns-then-has-7
 walk-returns-then-has-7 t c =
-    record {
-      is = λ {image} {table} {side} w.
-          let arm = arm-of c.args.steps.now w.hand c.args.at c.field.ensures c.read_head.ensures c.in-Step.is c.in-EuLater.is in
-          arm-fails arm (number c.args.met) c.args.s
-          (besides-fails ((graph_of image).next c.args.s c.in-EuLater.c)
-          (off-fails (number c.args.met) c.index-k.ensures c.has-in-EuLater.result c.has-in-EuLater.ensures c.if-has-7.true)) c.fails-then-has-7.ensures;
-    }
+    refused c.field.ensures c.read_head.ensures c.in-Step.is c.in-EuLater.is (number c.args.met) c.args.s
+    (λ image table side w. besides-fails ((graph_of image).next c.args.s c.in-EuLater.c)
+        (off-fails (number c.args.met) c.index-k.ensures c.has-in-EuLater.result c.has-in-EuLater.ensures c.if-has-7.true))
+    c.fails-then-has-7.ensures
 
 pub walk-returns-then-not-leads-3 : goal.walk-returns-then-not-leads-3
 walk-returns-then-not-leads-3 t c =
-    record {
-      is = λ {image} {table} {side} w.
-          let arm = arm-of c.args.steps.now w.hand c.args.at c.field.ensures c.read_head.ensures c.in-Step.is c.in-EuLater.is in
-          arm-fails arm (number c.args.met) c.args.s
-          (chosen-fails c.leads-in-EuLater.result _ (next-is _ w c.index-k.ensures c.leads-in-EuLater.ensures) c.if-not-leads-3.true)
-          c.fails-then-not-leads-3.ensures;
-    }
+    refused c.field.ensures c.read_head.ensures c.in-Step.is c.in-EuLater.is (number c.args.met) c.args.s
+    (λ image table side w. chosen-fails c.leads-in-EuLater.result _ (next-is _ w c.index-k.ensures c.leads-in-EuLater.ensures) c.if-not-leads-3.true)
+    c.fails-then-not-leads-3.ensures
 
 pub walk-go_on-requires-in-EuLater : goal.walk-go_on-requires-in-EuLater
 walk-go_on-requires-in-EuLater t c =
@@ -518,15 +434,12 @@ walk-go_on-requires-in-EuLater t c =
 
 pub walk-returns-in-EuLater : goal.walk-returns-in-EuLater
 walk-returns-in-EuLater t c =
-    record {
-      is = λ {image} {table} {side} w.
-          let arm = arm-of c.args.steps.now w.hand c.args.at c.field.ensures c.read_head.ensures c.in-Step.is c.in-EuLater.is in
-          arm-proves arm (number c.args.met) c.args.s
-          (chosen-holds c.leads-in-EuLater.result (next-is _ w c.index-k.ensures c.leads-in-EuLater.ensures) c.if-not-leads-3.false
-          (off-holds (number c.args.met) c.index-k.ensures c.has-in-EuLater.result c.has-in-EuLater.ensures c.if-has-7.false))
-          (c.go_on-in-EuLater.ensures.is w
-          (chosen-next c.leads-in-EuLater.result (next-is _ w c.index-k.ensures c.leads-in-EuLater.ensures) c.if-not-leads-3.false));
-    }
+    taken c.field.ensures c.read_head.ensures c.in-Step.is c.in-EuLater.is (number c.args.met) c.args.s
+    (λ image table side w arm. (
+      chosen-holds c.leads-in-EuLater.result (next-is _ w c.index-k.ensures c.leads-in-EuLater.ensures) c.if-not-leads-3.false
+          (off-holds (number c.args.met) c.index-k.ensures c.has-in-EuLater.result c.has-in-EuLater.ensures c.if-has-7.false),
+      c.go_on-in-EuLater.ensures.is w (chosen-next c.leads-in-EuLater.result (next-is _ w c.index-k.ensures c.leads-in-EuLater.ensures) c.if-not-leads-3.false),
+    ))
 
 -- ---- `walk`, after the rules: the loop at each successor, and a step with no rule
 

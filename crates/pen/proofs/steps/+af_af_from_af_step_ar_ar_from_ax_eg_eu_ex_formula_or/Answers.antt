@@ -12,7 +12,7 @@ use Rattle.pen.proofs.WroteLaws.{wrote-length, wrote-place, wrote-past, wrote-bo
 use Rattle.pen.proofs.EachLaws.{turn-of, each_start, each-stage, each-edge, each-end, each_next as turns-on}
 use Rattle.logic.specs.Test.{af as af_test}
 use Rattle.pen.specs.Steps.{a_of, af_steps, b_of, InHand}
-use Rattle.pen.proofs.KindLaws.{fields, rule-of, af-from as af-holds, af-start, ar-from as ar-from-start, eg-from, eu-from, kind-told, true-steps, is-steps}
+use Rattle.pen.proofs.KindLaws.{fields, rule-of, af-from as af-holds, af-start, ar-from as ar-from-start, eg-from, eu-from, in_arm, true-steps, is-steps}
 use Rattle.pen.proofs.KindLaws.{is-not-steps, false-never, no_kind, and_both, and-steps, or_right, left-steps, right-steps, ax-each, ax-steps, ex-some}
 use Rattle.pen.proofs.KindLaws.{ex-steps}
 use Rattle.pen.proofs.WriterLaws.{start_is, start-below, ready_of, under, code_wrote, operand-wrote, stop-has, stop-lacks, next-all, walk-has, walk-lacks}
@@ -79,9 +79,7 @@ pub af_from-returns : goal.af_from-returns
 af_from-returns t c =
     let h = c.requires in
     let f = fields h.holding c.entry_at-f.ensures in
-    let rule = rule-of h in
     let s-is = start_is h.holding f c.stage_of.ensures in
-    let below = start-below h.holding rule.t in
     wrote-same (ap (af_steps c.args.image.now c.args.table.now c.args.side c.args.e (env_of c.args.env)) s-is ∙ af-start h)
     c.af.ensures.0
 
@@ -168,9 +166,7 @@ pub af_step-overflow_cast-t : goal.af_step-overflow_cast-t
 af_step-overflow_cast-t t c =
     let a = c.requires.0 in
     let h = a.hand in
-    let rule = rule-of h in
     let row = h.holding.setup.row in
-    let not-now = stop-lacks a.stops a.below c.has.ensures c.if-has.false in
     let turn = turn-of c.is_empty.result c.is_empty.ensures c.loop-env-test.true c.lowest-t.ensures refl in
     record { fits = omega (arith, row.room, each-stage row a.below _ _ _ _ c.loop-env.invariant.0 turn) }
 
@@ -182,7 +178,6 @@ pub af_step-af-here-requires : goal.af_step-af-here-requires
 af_step-af-here-requires t c =
     let a = c.requires.0 in
     let h = a.hand in
-    let rule = rule-of h in
     let row = h.holding.setup.row in
     let not-now = stop-lacks a.stops a.below c.has.ensures c.if-has.false in
     let turn = turn-of c.is_empty.result c.is_empty.ensures c.loop-env-test.true c.lowest-t.ensures refl in
@@ -207,9 +202,7 @@ pub af_step-loop-env-preserved : goal.af_step-loop-env-preserved
 af_step-loop-env-preserved t c =
     let a = c.requires.0 in
     let h = a.hand in
-    let rule = rule-of h in
     let row = h.holding.setup.row in
-    let not-now = stop-lacks a.stops a.below c.has.ensures c.if-has.false in
     let turn = turn-of c.is_empty.result c.is_empty.ensures c.loop-env-test.true c.lowest-t.ensures c.rest-there.ensures in
     (turns-on row a.below _ _ _ _ c.loop-env.invariant.0 turn c.af-here.ensures.0, c.af-here.ensures.1)
 
@@ -217,7 +210,6 @@ pub af_step-returns : goal.af_step-returns
 af_step-returns t c =
     let a = c.requires.0 in
     let h = a.hand in
-    let rule = rule-of h in
     let row = h.holding.setup.row in
     let not-now = stop-lacks a.stops a.below c.has.ensures c.if-has.false in (
       wrote-same (af-later-steps a not-now)
@@ -274,9 +266,7 @@ pub ar_from-returns : goal.ar_from-returns
 ar_from-returns t c =
     let h = c.requires in
     let f = fields h.holding c.entry_at-f.ensures in
-    let rule = rule-of h in
     let s-is = start_is h.holding f c.stage_of.ensures in
-    let below = start-below h.holding rule.t in
     wrote-same (ar-begins h c.byte-n.ensures c.empty.ensures s-is) c.ar.ensures
 
 pub ar-returns-then-out-at : goal.ar-returns-then-out-at
@@ -298,17 +288,10 @@ ar-entry_at-f-requires t c =
 
 pub ar-formula-a-requires : goal.ar-formula-a-requires
 ar-formula-a-requires t c =
-    let image = c.args.image.now in
-    let table = c.args.table.now in
-    let side = c.args.side in
-    let e = c.args.e in
-    let env = c.args.env in
     let a = c.requires in
     let h = a.hand in
     let f = fields h.holding c.entry_at-f.ensures in
     let rule = rule-of h in
-    let b_here = ar-here h.holding.setup.readable (a_of image table side e (env_of env)).holds (b_of image table side e (env_of env)).holds _
-    a.below a.holds in
     let released = stop-has a.stops a.below c.has-2.ensures c.if-has-2.true in (
       omega (arith, c.decreases, f.a, rule.a),
       under h.holding f.a rule.a f.x (omega (arith, rule.x)) a.below c.bound-to.ensures released,
@@ -342,8 +325,6 @@ ar-returns-then-has-2 t c =
     let h = a.hand in
     let f = fields h.holding c.entry_at-f.ensures in
     let rule = rule-of h in
-    let b_here = ar-here h.holding.setup.readable (a_of image table side e (env_of env)).holds (b_of image table side e (env_of env)).holds _
-    a.below a.holds in
     let released = stop-has a.stops a.below c.has-2.ensures c.if-has-2.true in
     wrote-same (ar-releases image table side e env _ _ _ (omega (arith, c.if-left-eq0.false)) (walk-lacks _ _ c.has.ensures c.if-has.false) released)
     (wrote-both (code_wrote Rule.ArRelease c.code_of-then-has-2.ensures c.put-on.ensures)
@@ -369,35 +350,16 @@ ar-formula-here-requires t c =
 
 pub ar-loop-env-init : goal.ar-loop-env-init
 ar-loop-env-init t c =
-    let image = c.args.image.now in
-    let table = c.args.table.now in
-    let side = c.args.side in
-    let e = c.args.e in
-    let env = c.args.env in
     let a = c.requires in
     let h = a.hand in
-    let f = fields h.holding c.entry_at-f.ensures in
-    let rule = rule-of h in
-    let b_here = ar-here h.holding.setup.readable (a_of image table side e (env_of env)).holds (b_of image table side e (env_of env)).holds _
-    a.below a.holds in
     each_start h.holding.setup.row a.below _ _ _ _ (wrote-place c.formula-here.ensures) (number_lt _ _ c.load-there.type_inv)
     (next-all h.holding.setup a.below c.load-there.ensures)
 
 pub ar-overflow_cast-t : goal.ar-overflow_cast-t
 ar-overflow_cast-t t c =
-    let image = c.args.image.now in
-    let table = c.args.table.now in
-    let side = c.args.side in
-    let e = c.args.e in
-    let env = c.args.env in
     let a = c.requires in
     let h = a.hand in
-    let f = fields h.holding c.entry_at-f.ensures in
-    let rule = rule-of h in
-    let b_here = ar-here h.holding.setup.readable (a_of image table side e (env_of env)).holds (b_of image table side e (env_of env)).holds _
-    a.below a.holds in
     let row = h.holding.setup.row in
-    let on = stop-lacks a.stops a.below c.has-2.ensures c.if-has-2.false in
     let turn = turn-of c.is_empty.result c.is_empty.ensures c.loop-env-test.true c.lowest-t.ensures refl in
     record { fits = omega (arith, row.room, each-stage row a.below _ _ _ _ c.loop-env.invariant turn) }
 
@@ -414,10 +376,6 @@ ar-ar-here-requires t c =
     let env = c.args.env in
     let a = c.requires in
     let h = a.hand in
-    let f = fields h.holding c.entry_at-f.ensures in
-    let rule = rule-of h in
-    let b_here = ar-here h.holding.setup.readable (a_of image table side e (env_of env)).holds (b_of image table side e (env_of env)).holds _
-    a.below a.holds in
     let row = h.holding.setup.row in
     let on = stop-lacks a.stops a.below c.has-2.ensures c.if-has-2.false in
     let turn = turn-of c.is_empty.result c.is_empty.ensures c.loop-env-test.true c.lowest-t.ensures refl in
@@ -440,19 +398,9 @@ ar-loop-env-smaller t c =
 
 pub ar-loop-env-preserved : goal.ar-loop-env-preserved
 ar-loop-env-preserved t c =
-    let image = c.args.image.now in
-    let table = c.args.table.now in
-    let side = c.args.side in
-    let e = c.args.e in
-    let env = c.args.env in
     let a = c.requires in
     let h = a.hand in
-    let f = fields h.holding c.entry_at-f.ensures in
-    let rule = rule-of h in
-    let b_here = ar-here h.holding.setup.readable (a_of image table side e (env_of env)).holds (b_of image table side e (env_of env)).holds _
-    a.below a.holds in
     let row = h.holding.setup.row in
-    let on = stop-lacks a.stops a.below c.has-2.ensures c.if-has-2.false in
     let turn = turn-of c.is_empty.result c.is_empty.ensures c.loop-env-test.true c.lowest-t.ensures c.rest-there.ensures in
     turns-on row a.below _ _ _ _ c.loop-env.invariant turn c.ar-here.ensures
 
@@ -467,8 +415,6 @@ ar-returns t c =
     let h = a.hand in
     let f = fields h.holding c.entry_at-f.ensures in
     let rule = rule-of h in
-    let b_here = ar-here h.holding.setup.readable (a_of image table side e (env_of env)).holds (b_of image table side e (env_of env)).holds _
-    a.below a.holds in
     let row = h.holding.setup.row in
     let on = stop-lacks a.stops a.below c.has-2.ensures c.if-has-2.false in
     wrote-same (ar-goes image table side e env _ _ _ (omega (arith, c.if-left-eq0.false)) (omega (arith, a.below, row.room)) (walk-lacks _ _ c.has.ensures
@@ -707,79 +653,61 @@ formula-entry_at-f-requires t c =
 pub formula-formula-a-requires : goal.formula-formula-a-requires
 formula-formula-a-requires t c =
     let f = fields c.requires c.entry_at-f.ensures in
-    let h : InHand _ _ _ _ _ _ _ K.And = kind-told c.requires f c.kind_of.ensures c.in-And.is in
+    let h : InHand _ _ _ _ _ _ _ K.And = in_arm c.requires c.entry_at-f.ensures c.kind_of.ensures c.in-And.is in
     (omega (arith, c.decreases, f.a, (rule-of h).a), same-env c.requires f.a (rule-of h).a (and_both h).0)
 
 pub formula-formula-requires : goal.formula-formula-requires
 formula-formula-requires t c =
     let f = fields c.requires c.entry_at-f.ensures in
-    let h : InHand _ _ _ _ _ _ _ K.And = kind-told c.requires f c.kind_of.ensures c.in-And.is in
+    let h : InHand _ _ _ _ _ _ _ K.And = in_arm c.requires c.entry_at-f.ensures c.kind_of.ensures c.in-And.is in
     (omega (arith, c.decreases, f.b, (rule-of h).b), same-env c.requires f.b (rule-of h).b (and_both h).1)
 
 pub formula-or-requires : goal.formula-or-requires
 formula-or-requires t c =
-    let f = fields c.requires c.entry_at-f.ensures in
-    let h : InHand _ _ _ _ _ _ _ K.Or = kind-told c.requires f c.kind_of.ensures c.in-Or.is in
-    (omega (arith, c.decreases), h)
+    (omega (arith, c.decreases), in_arm c.requires c.entry_at-f.ensures c.kind_of.ensures c.in-Or.is)
 
 pub formula-ax-requires : goal.formula-ax-requires
 formula-ax-requires t c =
-    let f = fields c.requires c.entry_at-f.ensures in
-    let h : InHand _ _ _ _ _ _ _ K.AX = kind-told c.requires f c.kind_of.ensures c.in-AX.is in
-    (omega (arith, c.decreases), h)
+    (omega (arith, c.decreases), in_arm c.requires c.entry_at-f.ensures c.kind_of.ensures c.in-AX.is)
 
 pub formula-ex-requires : goal.formula-ex-requires
 formula-ex-requires t c =
-    let f = fields c.requires c.entry_at-f.ensures in
-    let h : InHand _ _ _ _ _ _ _ K.EX = kind-told c.requires f c.kind_of.ensures c.in-EX.is in
-    (omega (arith, c.decreases), h)
+    (omega (arith, c.decreases), in_arm c.requires c.entry_at-f.ensures c.kind_of.ensures c.in-EX.is)
 
 pub formula-af_from-requires : goal.formula-af_from-requires
 formula-af_from-requires t c =
-    let f = fields c.requires c.entry_at-f.ensures in
-    let h : InHand _ _ _ _ _ _ _ K.AF = kind-told c.requires f c.kind_of.ensures c.in-AF.is in
-    (omega (arith, c.decreases), h)
+    (omega (arith, c.decreases), in_arm c.requires c.entry_at-f.ensures c.kind_of.ensures c.in-AF.is)
 
 pub formula-eg-requires : goal.formula-eg-requires
 formula-eg-requires t c =
-    let f = fields c.requires c.entry_at-f.ensures in
-    let h : InHand _ _ _ _ _ _ _ K.EG = kind-told c.requires f c.kind_of.ensures c.in-EG.is in
-    (omega (arith, c.decreases), h)
+    (omega (arith, c.decreases), in_arm c.requires c.entry_at-f.ensures c.kind_of.ensures c.in-EG.is)
 
 pub formula-ar_from-requires : goal.formula-ar_from-requires
 formula-ar_from-requires t c =
-    let f = fields c.requires c.entry_at-f.ensures in
-    let h : InHand _ _ _ _ _ _ _ K.AR = kind-told c.requires f c.kind_of.ensures c.in-AR.is in
-    (omega (arith, c.decreases), h)
+    (omega (arith, c.decreases), in_arm c.requires c.entry_at-f.ensures c.kind_of.ensures c.in-AR.is)
 
 pub formula-eu-requires : goal.formula-eu-requires
 formula-eu-requires t c =
-    let f = fields c.requires c.entry_at-f.ensures in
-    let h : InHand _ _ _ _ _ _ _ K.EU = kind-told c.requires f c.kind_of.ensures c.in-EU.is in
-    (omega (arith, c.decreases), h)
+    (omega (arith, c.decreases), in_arm c.requires c.entry_at-f.ensures c.kind_of.ensures c.in-EU.is)
 
 pub formula-returns-in-True : goal.formula-returns-in-True
 formula-returns-in-True t c =
-    let f = fields c.requires c.entry_at-f.ensures in
-    let h : InHand _ _ _ _ _ _ _ K.True = kind-told c.requires f c.kind_of.ensures c.in-True.is in
+    let h : InHand _ _ _ _ _ _ _ K.True = in_arm c.requires c.entry_at-f.ensures c.kind_of.ensures c.in-True.is in
     wrote-same (true-steps h) (code_wrote Rule.True c.code_of.ensures c.put.ensures)
 
 pub formula-returns-in-False : goal.formula-returns-in-False
 formula-returns-in-False t c =
-    let f = fields c.requires c.entry_at-f.ensures in
-    let h : InHand _ _ _ _ _ _ _ K.False = kind-told c.requires f c.kind_of.ensures c.in-False.is in
+    let h : InHand _ _ _ _ _ _ _ K.False = in_arm c.requires c.entry_at-f.ensures c.kind_of.ensures c.in-False.is in
     absurd (false-never h)
 
 pub formula-returns-in-Is : goal.formula-returns-in-Is
 formula-returns-in-Is t c =
-    let f = fields c.requires c.entry_at-f.ensures in
-    let h : InHand _ _ _ _ _ _ _ K.Is = kind-told c.requires f c.kind_of.ensures c.in-Is.is in
+    let h : InHand _ _ _ _ _ _ _ K.Is = in_arm c.requires c.entry_at-f.ensures c.kind_of.ensures c.in-Is.is in
     wrote-same (is-steps h) (code_wrote Rule.Holds c.code_of-in-Is.ensures c.put-in-Is.ensures)
 
 pub formula-returns-in-IsNot : goal.formula-returns-in-IsNot
 formula-returns-in-IsNot t c =
-    let f = fields c.requires c.entry_at-f.ensures in
-    let h : InHand _ _ _ _ _ _ _ K.IsNot = kind-told c.requires f c.kind_of.ensures c.in-IsNot.is in
+    let h : InHand _ _ _ _ _ _ _ K.IsNot = in_arm c.requires c.entry_at-f.ensures c.kind_of.ensures c.in-IsNot.is in
     wrote-same (is-not-steps h) (code_wrote Rule.HoldsNot c.code_of-in-IsNot.ensures c.put-in-IsNot.ensures)
 
 pub formula-returns-in-And : goal.formula-returns-in-And
@@ -788,7 +716,7 @@ formula-returns-in-And t c =
     let table = c.args.table.now in
     let side = c.args.side in
     let f = fields c.requires c.entry_at-f.ensures in
-    let h : InHand _ _ _ _ _ _ _ K.And = kind-told c.requires f c.kind_of.ensures c.in-And.is in
+    let h : InHand _ _ _ _ _ _ _ K.And = in_arm c.requires c.entry_at-f.ensures c.kind_of.ensures c.in-And.is in
     wrote-same (and-steps h)
     (wrote-both (code_wrote Rule.And c.code_of-in-And.ensures c.put-on.ensures)
     (wrote-both (plain-wrote image table side f.a _ c.formula-a.ensures) (plain-wrote image table side f.b _ c.formula.ensures)))
@@ -816,8 +744,7 @@ formula-returns-in-EU t c = c.eu.ensures
 
 pub formula-returns-in-NoKind : goal.formula-returns-in-NoKind
 formula-returns-in-NoKind t c =
-    let f = fields c.requires c.entry_at-f.ensures in
-    let h : InHand _ _ _ _ _ _ _ K.NoKind = kind-told c.requires f c.kind_of.ensures c.in-NoKind.is in
+    let h : InHand _ _ _ _ _ _ _ K.NoKind = in_arm c.requires c.entry_at-f.ensures c.kind_of.ensures c.in-NoKind.is in
     absurd (no_kind h)
 
 pub or-returns-then-out-at : goal.or-returns-then-out-at
@@ -851,7 +778,6 @@ or-returns-then-holds_on t c =
     let side = c.args.side in
     let h = c.requires in
     let f = fields h.holding c.entry_at-f.ensures in
-    let rule = rule-of h in
     wrote-same (left-steps h (told-true image table side c.args.env f.a c.holds_on.ensures c.if-holds_on.true))
     (wrote-both (code_wrote Rule.OrLeft c.code_of.ensures c.put-on.ensures) (plain-wrote image table side f.a _ c.formula.ensures))
 
@@ -872,7 +798,6 @@ or-returns t c =
     let side = c.args.side in
     let h = c.requires in
     let f = fields h.holding c.entry_at-f.ensures in
-    let rule = rule-of h in
     wrote-same (right-steps h (told-false image table side c.args.env f.a c.holds_on.ensures c.if-holds_on.false))
     (wrote-both (code_wrote Rule.OrRight c.code_of-2.ensures c.put-on-2.ensures) (plain-wrote image table side f.b _
     c.formula-2.ensures))
@@ -899,7 +824,6 @@ ax-loop-env-init t c =
 pub ax-overflow_cast-t : goal.ax-overflow_cast-t
 ax-overflow_cast-t t c =
     let h = c.requires in
-    let f = fields h.holding c.entry_at-f.ensures in
     let rule = rule-of h in
     let row = h.holding.setup.row in
     let below = start-below h.holding rule.t in
@@ -939,7 +863,6 @@ ax-loop-env-preserved t c =
 pub ax-returns : goal.ax-returns
 ax-returns t c =
     let h = c.requires in
-    let f = fields h.holding c.entry_at-f.ensures in
     let rule = rule-of h in
     let row = h.holding.setup.row in
     let below = start-below h.holding rule.t in
@@ -994,9 +917,7 @@ ex-returns t c =
     let f = fields h.holding c.entry_at-f.ensures in
     let rule = rule-of h in
     let s-is = start_is h.holding f c.stage_of-s.ensures in
-    let below = start-below h.holding rule.t in
     let chosen = choice-of image table side env f.a f.x s-is c.ex-c.ensures in
-    let at = ex-holds h.holding.setup.readable (a_of image table side c.args.e (env_of env)).holds _ below chosen (ex-some h) in
     wrote-same (ex-steps h _ chosen)
     (wrote-both (code_wrote (Rule.Ex 0) c.code_of.ensures c.put-on.ensures)
     (wrote-both c.put-chosen.ensures (operand-wrote image table side f.a f.x (omega (arith, rule.x)) c.bound-to.ensures
