@@ -244,7 +244,7 @@ pub walk-returns-then-has-3 : goal.walk-returns-then-has-3
 walk-returns-then-has-3 t c =
     refused c.field.ensures c.read_head.ensures c.in-Step.is c.in-EgOn.is (number c.args.met) c.args.s
     (λ image table side w. besides-fails ((graph_of image).next c.args.s c.in-EgOn.c)
-        (off-fails (number c.args.met) c.index-k.ensures c.has-in-EgOn.result c.has-in-EgOn.ensures c.if-has-3.true))
+    (off-fails (number c.args.met) c.index-k.ensures c.has-in-EgOn.result c.has-in-EgOn.ensures c.if-has-3.true))
     c.fails-then-has-3.ensures
 
 pub walk-returns-then-not-leads-2 : goal.walk-returns-then-not-leads-2
@@ -410,7 +410,7 @@ pub walk-returns-then-has-7 : goal.walk-returns-then-has-7
 walk-returns-then-has-7 t c =
     refused c.field.ensures c.read_head.ensures c.in-Step.is c.in-EuLater.is (number c.args.met) c.args.s
     (λ image table side w. besides-fails ((graph_of image).next c.args.s c.in-EuLater.c)
-        (off-fails (number c.args.met) c.index-k.ensures c.has-in-EuLater.result c.has-in-EuLater.ensures c.if-has-7.true))
+    (off-fails (number c.args.met) c.index-k.ensures c.has-in-EuLater.result c.has-in-EuLater.ensures c.if-has-7.true))
     c.fails-then-has-7.ensures
 
 pub walk-returns-then-not-leads-3 : goal.walk-returns-then-not-leads-3
