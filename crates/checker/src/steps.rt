@@ -43,7 +43,7 @@ fn index(s: u8) -> usize
 fn leads(sets: &[u64; setup::SETS], k: usize, c: u8) -> bool
     ensures { Decides result (Has (held sets.now k) c) }
 {
-    sets::has(setup::set(sets, k), c as usize)
+    setup::set(sets, k).has(c as usize)
 }
 
 // The variables with an entry's x, and with its y, at a stage.
@@ -98,7 +98,7 @@ pub(crate) fn formula(
 fn fresh_walk() -> Set
     ensures { number result ≡ 0 }
 {
-    sets::empty()
+    Set::empty()
 }
 
 // "True", "false" or an atom: one step with no premises, so that there is no walk. For "false" there is no rule.
@@ -190,7 +190,7 @@ fn walk(
                     return formula(sets, entries, steps, a, bound, begun, fault);
                 }
                 Rule::AfNow => {
-                    if sets::has(met, k) {
+                    if met.has(k) {
                         return fails(steps, at, fault);
                     }
                     let a = setup::field(entries, setup::A, e);
@@ -198,13 +198,13 @@ fn walk(
                     return formula(sets, entries, steps, a, bound, begun, fault);
                 }
                 Rule::AfLater => {
-                    if sets::has(met, k) {
+                    if met.has(k) {
                         return fails(steps, at, fault);
                     }
                     begun
                 }
                 Rule::EgOn(c) => {
-                    if sets::has(met, k) {
+                    if met.has(k) {
                         return fails(steps, at, fault);
                     }
                     if !leads(sets, k, c) {
@@ -213,13 +213,13 @@ fn walk(
                     return go_on(sets, entries, steps, e, env, met, s, c, begun, fault);
                 }
                 Rule::EgMerge => {
-                    if !sets::has(met, k) {
+                    if !met.has(k) {
                         return fails(steps, at, fault);
                     }
                     return begun;
                 }
                 Rule::ArRelease => {
-                    if sets::has(met, k) {
+                    if met.has(k) {
                         return fails(steps, at, fault);
                     }
                     let a = setup::field(entries, setup::A, e);
@@ -233,7 +233,7 @@ fn walk(
                     return formula(sets, entries, steps, b, bound, here, fault);
                 }
                 Rule::ArOn => {
-                    if sets::has(met, k) {
+                    if met.has(k) {
                         return fails(steps, at, fault);
                     }
                     let b = setup::field(entries, setup::B, e);
@@ -241,13 +241,13 @@ fn walk(
                     formula(sets, entries, steps, b, bound, begun, fault)
                 }
                 Rule::ArMerge => {
-                    if !sets::has(met, k) {
+                    if !met.has(k) {
                         return fails(steps, at, fault);
                     }
                     return begun;
                 }
                 Rule::EuNow => {
-                    if sets::has(met, k) {
+                    if met.has(k) {
                         return fails(steps, at, fault);
                     }
                     let b = setup::field(entries, setup::B, e);
@@ -255,7 +255,7 @@ fn walk(
                     return formula(sets, entries, steps, b, bound, begun, fault);
                 }
                 Rule::EuLater(c) => {
-                    if sets::has(met, k) {
+                    if met.has(k) {
                         return fails(steps, at, fault);
                     }
                     if !leads(sets, k, c) {
@@ -266,14 +266,14 @@ fn walk(
             };
             let mut left = setup::set(sets, k);
             let mut here = from;
-            while !sets::is_empty(left) {
+            while !left.is_empty() {
                 if steps.len() < here {
                     return here;
                 }
-                let t = sets::lowest(left) as u8;
-                let grown = sets::with(met, k);
+                let t = left.lowest() as u8;
+                let grown = met.with(k);
                 here = walk(sets, entries, steps, e, env, grown, t, here, fault);
-                left = sets::rest(left);
+                left = left.rest();
             }
             here
         }
@@ -311,7 +311,7 @@ fn go_on(
         steps,
         e,
         env,
-        sets::with(met, s as usize),
+        met.with(s as usize),
         c,
         here,
         fault,
@@ -335,15 +335,15 @@ fn at_each(
 {
     let mut left = setup::set(sets, s as usize);
     let mut here = at;
-    while !sets::is_empty(left) {
+    while !left.is_empty() {
         if steps.len() < here {
             return here;
         }
-        let t = sets::lowest(left) as u8;
+        let t = left.lowest() as u8;
         let a = setup::field(entries, setup::A, e);
         let bound = x_at(entries, e, env, t);
         here = formula(sets, entries, steps, a, bound, here, fault);
-        left = sets::rest(left);
+        left = left.rest();
     }
     here
 }

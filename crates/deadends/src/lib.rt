@@ -65,10 +65,10 @@ fn listed(image: &[u8], n: usize) -> Report
     let mut next = [0u64; setup::NEXT];
     setup::decode(image, stages, &mut next);
     let fired = image::set(image, image::first_set(image, 0));
-    let all = sets::below(stages);
+    let all = Set::below(stages);
     let able = modal::eu(&next, stages, all, fired);
-    let dead = sets::minus(all, able);
-    Report::DeadEnds(dead, sets::count(dead) as u8)
+    let dead = all.minus(able);
+    Report::DeadEnds(dead, dead.count() as u8)
 }
 
 // The report for callers in C. Its number comes back: a refusal's own, or 128 and the number of dead ends. The set is stored at the front of the
@@ -79,7 +79,7 @@ pub fn zseq_dead_ends(image: &[u8], set: &mut [u8]) -> u64
     match report(image) {
         Report::Refused(k) => answer::code(Report::Refused(k)),
         Report::DeadEnds(dead, count) => {
-            sets::stored::write(set, dead);
+            dead.write(set);
             answer::code(Report::DeadEnds(dead, count))
         }
     }

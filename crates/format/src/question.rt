@@ -59,7 +59,7 @@ fn other_free(image: &[u8], table: &[u8], goal: u8) -> bool
 {
     let free = variables::free(image, table, goal);
     for v in 1..4 {
-        if sets::has(free, v) {
+        if free.has(v) {
             return true;
         }
     }

@@ -43,6 +43,6 @@ pub fn where_on(
     if side == 0 {
         held
     } else {
-        sets::minus(sets::below(n), held)
+        Set::below(n).minus(held)
     }
 }

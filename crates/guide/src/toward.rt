@@ -14,7 +14,7 @@ pub(crate) fn lowest_next(next: &[u64], n: usize, s: usize, set: Set) -> u8
     requires { n ≤ width }
     ensures { result ≡ lowest_in next.now n (number set) s }
 {
-    let low = sets::lowest(sets::common(sets::row::load(next, s), set));
+    let low = sets::row::load(next, s).common(set).lowest();
     if low < n { low as u8 } else { 0 }
 }
 
@@ -24,10 +24,10 @@ fn settle(next: &[u64], n: usize, new: Set, set: Set, toward: &mut [u8])
     ensures { Filled n (settled next.now n (number new) (number set) toward.old) toward.old toward.new }
 {
     let mut left = new;
-    while !sets::is_empty(left) {
-        let s = sets::lowest(left);
+    while !left.is_empty() {
+        let s = left.lowest();
         toward[s] = lowest_next(next, n, s, set);
-        left = sets::rest(left);
+        left = left.rest();
     }
 }
 
@@ -36,7 +36,7 @@ pub(crate) fn fill(next: &[u64], n: usize, set: Set, toward: &mut [u8])
     requires { (n ≤ width) × (n ≤ length toward.old) }
     ensures { Filled n (lowest_in next.now n (number set)) toward.old toward.new }
 {
-    let all = sets::below(n);
+    let all = Set::below(n);
     settle(next, n, all, set, toward);
 }
 
@@ -52,16 +52,16 @@ pub(crate) fn nearest(next: &[u64], n: usize, a: Set, b: Set, toward: &mut [u8])
         → Filled n (nearest G (member (number a)) (member (number b))) toward.old toward.new }
 {
     let mut near = b;
-    let mut away = sets::below(n);
+    let mut away = Set::below(n);
     let mut k = 0;
     while k < n {
         let new = modal::some_next_among(next, n, away, near);
-        if sets::is_empty(new) {
+        if new.is_empty() {
             return;
         }
         settle(next, n, new, near, toward);
-        away = sets::minus(away, new);
-        near = sets::union(near, sets::common(a, new));
+        away = away.minus(new);
+        near = near.union(a.common(new));
         k += 1;
     }
 }

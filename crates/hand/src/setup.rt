@@ -177,8 +177,8 @@ pub fn atom(sets: &[u64; SETS], entries: &[u8; ENTRIES], e: u8, env: Env) -> boo
     let t = env::stage_of(p.t, env) as usize;
     if p.arity == 2 {
         let b = env::stage_of(p.b, env) as usize;
-        sets::has(set(sets, p.first + t), b)
+        set(sets, p.first + t).has(b)
     } else {
-        sets::has(set(sets, p.first), t)
+        set(sets, p.first).has(t)
     }
 }

@@ -114,11 +114,11 @@ fn ax(
     let f = setup::entry_at(entries, e);
     let mut there = sets::row::load(next, env::stage_of(f.t, env) as usize);
     let mut here = put(out, write, at, code_of(Rule::Ax));
-    while !sets::is_empty(there) {
-        let t = sets::lowest(there) as u8;
+    while !there.is_empty() {
+        let t = there.lowest() as u8;
         let to = env.bound(f.x, t);
         here = formula(image, table, next, entries, side, write, f.a, to, out, here);
-        there = sets::rest(there);
+        there = there.rest();
     }
     here
 }
@@ -264,7 +264,7 @@ fn af_step(
     ensures { Wrote write (af_steps image.now table.now side e (env_of env) s) at out.old out.new result
         × Noted image.now table.now side e (env_of env) lens.new }
 {
-    if sets::has(stop, s as usize) {
+    if stop.has(s as usize) {
         let f = setup::entry_at(entries, e);
         let on = put(out, write, at, code_of(Rule::AfNow));
         let to = env.bound(f.x, s);
@@ -272,8 +272,8 @@ fn af_step(
     }
     let mut here = put(out, write, at, code_of(Rule::AfLater));
     let mut there = sets::row::load(next, s as usize);
-    while !sets::is_empty(there) {
-        let t = sets::lowest(there) as u8;
+    while !there.is_empty() {
+        let t = there.lowest() as u8;
         here = af(
             image,
             table,
@@ -290,7 +290,7 @@ fn af_step(
             out,
             here,
         );
-        there = sets::rest(there);
+        there = there.rest();
     }
     here
 }
@@ -319,12 +319,12 @@ fn eg(
     let n = byte(image, 5) as usize;
     let mut toward = [0u8; sets::WIDTH];
     guide::eg(image, table, next, n, side, f.a, env, f.x, &mut toward);
-    let mut walk = sets::empty();
+    let mut walk = Set::empty();
     let mut s = env::stage_of(f.t, env);
     let mut left = n + 1;
     let mut here = at;
     while 0 < left {
-        if sets::has(walk, s as usize) {
+        if walk.has(s as usize) {
             return put(out, write, here, code_of(Rule::EgMerge));
         }
         let c = toward[s as usize];
@@ -334,7 +334,7 @@ fn eg(
         here = formula(
             image, table, next, entries, side, write, f.a, to, out, chosen,
         );
-        walk = sets::with(walk, s as usize);
+        walk = walk.with(s as usize);
         s = c;
         left = left - 1;
     }
@@ -374,7 +374,7 @@ fn ar_from(
         e,
         env,
         stop,
-        sets::empty(),
+        Set::empty(),
         env::stage_of(f.t, env),
         n + 1,
         out,
@@ -410,11 +410,11 @@ fn ar(
     if left == 0 {
         return at;
     }
-    if sets::has(walk, s as usize) {
+    if walk.has(s as usize) {
         return put(out, write, at, code_of(Rule::ArMerge));
     }
     let f = setup::entry_at(entries, e);
-    if sets::has(stop, s as usize) {
+    if stop.has(s as usize) {
         let on = put(out, write, at, code_of(Rule::ArRelease));
         let to = env.bound(f.x, s);
         let a = formula(image, table, next, entries, side, write, f.a, to, out, on);
@@ -424,10 +424,10 @@ fn ar(
     let on = put(out, write, at, code_of(Rule::ArOn));
     let to = env.bound(f.y, s);
     let mut here = formula(image, table, next, entries, side, write, f.b, to, out, on);
-    let longer = sets::with(walk, s as usize);
+    let longer = walk.with(s as usize);
     let mut there = sets::row::load(next, s as usize);
-    while !sets::is_empty(there) {
-        let t = sets::lowest(there) as u8;
+    while !there.is_empty() {
+        let t = there.lowest() as u8;
         here = ar(
             image,
             table,
@@ -444,7 +444,7 @@ fn ar(
             out,
             here,
         );
-        there = sets::rest(there);
+        there = there.rest();
     }
     here
 }
@@ -489,7 +489,7 @@ fn eu(
     let mut left = n + 1;
     let mut here = at;
     while 0 < left {
-        if sets::has(now, s as usize) {
+        if now.has(s as usize) {
             let on = put(out, write, here, code_of(Rule::EuNow));
             let to = env.bound(f.y, s);
             return formula(image, table, next, entries, side, write, f.b, to, out, on);

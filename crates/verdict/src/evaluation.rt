@@ -42,7 +42,7 @@ pub fn where_holds(
         }
         Sort::Unary => where_modal(image, table, next, n, e, env, x),
         Sort::Binary => where_modal(image, table, next, n, e, env, x),
-        Sort::NoSort => sets::empty(),
+        Sort::NoSort => Set::empty(),
     }
 }
 
@@ -67,12 +67,12 @@ fn where_each(image: &[u8], table: &[u8], next: &[u64], n: usize, e: u8, env: En
     ensures { Collects n (modal_at image.now table.now e env x) (number result) }
 {
     let r = record::entry(table, e as usize);
-    let mut found = sets::empty();
+    let mut found = Set::empty();
     for s in 0..n {
         let here = env.bound(x, s as u8);
         let from = modal_set(image, table, next, n, e, here);
-        if sets::has(from, env::stage_of(r.t, here) as usize) {
-            found = sets::with(found, s);
+        if from.has(env::stage_of(r.t, here) as usize) {
+            found = found.with(s);
         }
     }
     found
@@ -86,7 +86,7 @@ pub(crate) fn modal_set(image: &[u8], table: &[u8], next: &[u64], n: usize, e: u
 {
     let r = record::entry(table, e as usize);
     let kind = record::kind_of(r.kind);
-    let none = sets::empty();
+    let none = Set::empty();
     match record::sort_of(kind) {
         Sort::Unary => {
             let a = where_holds(image, table, next, n, r.a, env, r.x);

@@ -40,5 +40,5 @@ fn holds_from(image: &[u8], table: &[u8], next: &[u64], n: usize, e: u8, env: En
 {
     let r = record::entry(table, e as usize);
     let from = evaluation::modal_set(image, table, next, n, e, env);
-    sets::has(from, env::stage_of(r.t, env) as usize)
+    from.has(env::stage_of(r.t, env) as usize)
 }
