@@ -17,35 +17,29 @@ pub struct Shape {
     pub sets: usize,
 }
 
-#[derive(Clone, Copy)]
-pub enum Answer {
-    Image(Shape),
-    Refused(Refusal),
-}
-
 // The image's shape, or the first of its refusals.
-pub fn read(image: &[u8]) -> Answer
+pub fn read(image: &[u8]) -> Result<Shape, Refusal>
     ensures { ImageAnswer image.now result }
 {
     if !begins(image, b'M', 7) {
-        return Answer::Refused(Refusal::ImageStart);
+        return Err(Refusal::ImageStart);
     }
     if !sizes_fit(image) {
-        return Answer::Refused(Refusal::ImageSizes);
+        return Err(Refusal::ImageSizes);
     }
     if !length_fits(image) {
-        return Answer::Refused(Refusal::ImageLength);
+        return Err(Refusal::ImageLength);
     }
     let plain = plain_sets(image);
     if high_bit(image, plain) {
-        return Answer::Refused(Refusal::BitTooHigh);
+        return Err(Refusal::BitTooHigh);
     }
     let n = byte(image, 5) as usize;
     if plain < n {
-        return Answer::Refused(Refusal::NoSuccessor);
+        return Err(Refusal::NoSuccessor);
     }
     let p = byte(image, 6);
-    Answer::Image(Shape {
+    Ok(Shape {
         stages: n,
         predicates: p as usize,
         sets: first_set(image, p),
