@@ -15,12 +15,12 @@ use mathlib.Core.Logic.{◌↔◌, ◌≢◌, ⊎_elim}
 use lib.Bits.{bit_and}
 use lib.Count.{count_trailing_zeros}
 use lib.Dec.{T}
+use Rattle.sets.specs.Walk.{Turn}
 use Rattle.model.specs.Decides.{Decides, decided, refuted}
 use Rattle.sets.specs.Member.{Has, Empty}
 use Rattle.sets.specs.Number.{width}
 use Rattle.sets.proofs.LawsMember.{has-test, empty-zero, side?}
 use Rattle.sets.proofs.LawsLowest.{lowest-le, lowest-lt, lowest-has, has_rest, rest-small}
-use Rattle.sets.proofs.LawsWalk.{Turn}
 use Rattle.format.specs.Image.{stages_of, member, graph_of}
 use Rattle.rules.specs.Reading.{Reader, onward, visit, through}
 use Rattle.rules.specs.declared.Progress.{Progress}

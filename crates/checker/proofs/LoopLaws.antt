@@ -14,12 +14,12 @@ use lib.Bits.{bit_or}
 use lib.Count.{ones}
 use lib.Dec.{T}
 use lib.ListN.{length}
+use Rattle.sets.specs.Walk.{Turn}
 use Rattle.model.specs.Decides.{Decides}
 use Rattle.model.specs.Formula.{Env}
 use Rattle.sets.specs.Member.{Has, Empty}
 use Rattle.sets.specs.Number.{single, width}
 use Rattle.sets.specs.Row.{held}
-use Rattle.sets.proofs.LawsWalk.{Turn}
 use Rattle.format.specs.Image.{member, graph_of}
 use Rattle.format.specs.Table.{record_at}
 use Rattle.rules.specs.Reading.{Reader, onward}

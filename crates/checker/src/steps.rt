@@ -40,21 +40,21 @@ fn index(s: u8) -> usize
 }
 
 // Whether stage c is a successor of stage k.
-fn leads(sets: &[u64; setup::SETS], k: usize, c: u8) -> bool
+fn leads(sets: &[Set; setup::SETS], k: usize, c: u8) -> bool
     ensures { Decides result (Has (held sets.now k) c) }
 {
     setup::set(sets, k).has(c as usize)
 }
 
 // The variables with an entry's x, and with its y, at a stage.
-fn x_at(entries: &[u8; setup::ENTRIES], e: u8, env: Env, t: u8) -> Env
+fn x_at(entries: &[Entry; setup::ENTRIES], e: u8, env: Env, t: u8) -> Env
     requires { e < most_entries }
     ensures { Bound env (field_at entries.now 3 e) t result }
 {
     env.bound(setup::field(entries, setup::X, e), t)
 }
 
-fn y_at(entries: &[u8; setup::ENTRIES], e: u8, env: Env, t: u8) -> Env
+fn y_at(entries: &[Entry; setup::ENTRIES], e: u8, env: Env, t: u8) -> Env
     requires { e < most_entries }
     ensures { Bound env (field_at entries.now 4 e) t result }
 {
@@ -62,7 +62,7 @@ fn y_at(entries: &[u8; setup::ENTRIES], e: u8, env: Env, t: u8) -> Env
 }
 
 // The stage at which the walk of an entry's formula starts: that of a modality's term; of another formula, 0.
-fn start(entries: &[u8; setup::ENTRIES], e: u8, env: Env) -> u8
+fn start(entries: &[Entry; setup::ENTRIES], e: u8, env: Env) -> u8
     requires { e < most_entries }
     ensures { Started (field_at entries.now 0 e) (field_at entries.now 5 e) (env_of env) result }
 {
@@ -76,8 +76,8 @@ fn start(entries: &[u8; setup::ENTRIES], e: u8, env: Env) -> u8
 // An entry's formula, from the start of its walk.
 #[cycle(at_each_formula_go_on_walk)]
 pub(crate) fn formula(
-    sets: &[u64; setup::SETS],
-    entries: &[u8; setup::ENTRIES],
+    sets: &[Set; setup::SETS],
+    entries: &[Entry; setup::ENTRIES],
     steps: &[u8],
     e: u8,
     env: Env,
@@ -103,8 +103,8 @@ fn fresh_walk() -> Set
 
 // "True", "false" or an atom: one step with no premises, so that there is no walk. For "false" there is no rule.
 fn leaf(
-    sets: &[u64; setup::SETS],
-    entries: &[u8; setup::ENTRIES],
+    sets: &[Set; setup::SETS],
+    entries: &[Entry; setup::ENTRIES],
     steps: &[u8],
     e: u8,
     env: Env,
@@ -143,8 +143,8 @@ fn leaf(
 // the loop at the end, where the walk has its stage added; the others are done before it.
 #[cycle(at_each_formula_go_on_walk)]
 fn walk(
-    sets: &[u64; setup::SETS],
-    entries: &[u8; setup::ENTRIES],
+    sets: &[Set; setup::SETS],
+    entries: &[Entry; setup::ENTRIES],
     steps: &[u8],
     e: u8,
     env: Env,
@@ -285,8 +285,8 @@ fn walk(
 // The entry's a at s, and then the walk, with s added, at its successor c.
 #[cycle(at_each_formula_go_on_walk)]
 fn go_on(
-    sets: &[u64; setup::SETS],
-    entries: &[u8; setup::ENTRIES],
+    sets: &[Set; setup::SETS],
+    entries: &[Entry; setup::ENTRIES],
     steps: &[u8],
     e: u8,
     env: Env,
@@ -321,8 +321,8 @@ fn go_on(
 // The entry's a at each successor of s, ascending.
 #[cycle(at_each_formula_go_on_walk)]
 fn at_each(
-    sets: &[u64; setup::SETS],
-    entries: &[u8; setup::ENTRIES],
+    sets: &[Set; setup::SETS],
+    entries: &[Entry; setup::ENTRIES],
     steps: &[u8],
     e: u8,
     env: Env,

@@ -29,7 +29,6 @@ use Rattle.logic.specs.Test.{Stages, eu}
 use Rattle.logic.proofs.TestMeaning.{eu-means}
 use Rattle.sets.specs.Member.{Has}
 use Rattle.sets.specs.Number.{width}
-use Rattle.sets.specs.Row.{words}
 use Rattle.sets.proofs.LawsMember.{has-test, has-minus}
 use Rattle.modal.specs.Row.{member, Row, Computes}
 use Rattle.modal.specs.Modal.{eu_of}
@@ -83,7 +82,7 @@ module _ {image : List ℕ} (clear : Clear (report_conditions image)) where
   all-stages n-is m-is = let few = (sizes image clear-image).stages in omega arith
 
   -- and the row that is decoded of it holds its graph.
-  pub clear-row : {n : ℕ} {before row : List ℕ} → n ≡ stages_of image → width * words ≤ length before → Decoded image n before row → Row row n (graph_of image)
+  pub clear-row : {n : ℕ} {before row : List Set} → n ≡ stages_of image → width ≤ length before → Decoded image n before row → Row row n (graph_of image)
   clear-row e long d =
       let few = (sizes image clear-image).stages in
       decoded-row e (omega arith) long d

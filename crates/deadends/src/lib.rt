@@ -17,6 +17,7 @@ ghost use Rattle.deadends.specs.Report.{ReportAnswer, CodedReport};
 use answer::Report;
 use format::{Refusal, byte, image};
 use hand::setup;
+use sets::Set;
 
 // The set of the dead ends with their number, or the first of the refusals 1 to 5 and 15.
 pub fn report(image: &[u8]) -> Report
@@ -62,7 +63,7 @@ fn listed(image: &[u8], n: usize) -> Report
     ensures { ReportAnswer image.now result }
 {
     let stages = within_width(n);
-    let mut next = [0u64; setup::NEXT];
+    let mut next = [Set::empty(); setup::NEXT];
     setup::decode(image, stages, &mut next);
     let fired = image::set(image, image::first_set(image, 0));
     let all = Set::below(stages);

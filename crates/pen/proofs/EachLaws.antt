@@ -15,6 +15,7 @@ use lib.Bits.{bit_and}
 use lib.Count.{count_trailing_zeros}
 use lib.Dec.{T}
 use lib.ListN.{length}
+use Rattle.sets.specs.Walk.{Turn}
 use Rattle.model.specs.Decides.{Decides, decided, refuted}
 use Rattle.model.specs.Graph.{Graph, Next}
 use Rattle.sets.specs.Member.{Has, Empty}
@@ -22,7 +23,6 @@ use Rattle.sets.specs.Number.{width}
 use Rattle.sets.specs.Row.{held}
 use Rattle.sets.proofs.LawsMember.{side?, has-test, empty-zero}
 use Rattle.sets.proofs.LawsLowest.{lowest-le, lowest-has, has_rest, rest-small}
-use Rattle.sets.proofs.LawsWalk.{Turn}
 use Rattle.modal.specs.Row.{Row}
 use Rattle.written.specs.Written.{visit, through}
 use Rattle.pen.specs.Wrote.{Wrote}

@@ -16,7 +16,7 @@ use sets::Set;
 pub fn where_holds(
     image: &[u8],
     table: &[u8],
-    next: &[u64],
+    next: &[Set],
     n: usize,
     e: u8,
     env: Env,
@@ -48,7 +48,7 @@ pub fn where_holds(
 
 // The same of a modality. Where its operands do not depend on x, its set is worked out once.
 #[cycle(modal_set_where_each_where_holds_where_modal)]
-fn where_modal(image: &[u8], table: &[u8], next: &[u64], n: usize, e: u8, env: Env, x: u8) -> Set
+fn where_modal(image: &[u8], table: &[u8], next: &[Set], n: usize, e: u8, env: Env, x: u8) -> Set
     requires { Ready image.now table.now next.now n e env × (x < 4) }
     ensures { Collects n (modal_at image.now table.now e env x) (number result) }
 {
@@ -62,7 +62,7 @@ fn where_modal(image: &[u8], table: &[u8], next: &[u64], n: usize, e: u8, env: E
 
 // The same, worked out for each stage of x. The modality's term is read outside its binding: in the environment that it is itself in.
 #[cycle(modal_set_where_each_where_holds_where_modal)]
-fn where_each(image: &[u8], table: &[u8], next: &[u64], n: usize, e: u8, env: Env, x: u8) -> Set
+fn where_each(image: &[u8], table: &[u8], next: &[Set], n: usize, e: u8, env: Env, x: u8) -> Set
     requires { Ready image.now table.now next.now n e env × (x < 4) }
     ensures { Collects n (modal_at image.now table.now e env x) (number result) }
 {
@@ -80,7 +80,7 @@ fn where_each(image: &[u8], table: &[u8], next: &[u64], n: usize, e: u8, env: En
 
 // The stages below n from which a modality holds, whatever its term; none where the entry is no modality. x is bound in a only, y in b only.
 #[cycle(modal_set_where_each_where_holds_where_modal)]
-pub(crate) fn modal_set(image: &[u8], table: &[u8], next: &[u64], n: usize, e: u8, env: Env) -> Set
+pub(crate) fn modal_set(image: &[u8], table: &[u8], next: &[Set], n: usize, e: u8, env: Env) -> Set
     requires { Ready image.now table.now next.now n e env }
     ensures { Collects n (held_from image.now table.now e env) (number result) }
 {

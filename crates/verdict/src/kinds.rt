@@ -61,7 +61,7 @@ pub(crate) fn joined(first: bool, a: Set, b: Set) -> Set
 }
 
 // The stages below n from which a modality holds, from the stages at which its operands hold; none where the kind is no modality.
-pub(crate) fn modal_of(next: &[u64], n: usize, kind: Kind, a: Set, b: Set) -> Set
+pub(crate) fn modal_of(next: &[Set], n: usize, kind: Kind, a: Set, b: Set) -> Set
     ensures { Computes next.now n (modal_on kind (number a) (number b)) (number result) }
 {
     let none = Set::empty();
