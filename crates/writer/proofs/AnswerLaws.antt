@@ -110,7 +110,7 @@ pub question-holding : {image table : List ℕ} {next before : List Set} {entrie
     → width ≤ length before → Decoded image q.shape.image.stages before next → length blank ≡ most_entries
     → Prepared image table q.shape.entries side blank entries → side ≡ side_by (truth_of image table q.goal (start_env q.start))
     → Holding image table next entries side q.goal (start_env q.start)
-question-holding {image} {table} {next} {entries} {before} {blank} {q} {side} read long d wide p side_is =
+question-holding {image} {table} {next} {before} {entries} {blank} {q} {side} read long d wide p side_is =
     let clear = read.clear in
     let of = of-setup image table q.goal q.start clear in
     let few = (sizes image (of_image image table of)).stages in
