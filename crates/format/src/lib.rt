@@ -61,28 +61,5 @@ pub fn byte(bytes: &[u8], at: usize) -> u8
 fn begins(bytes: &[u8], letter: u8, least: usize) -> bool
     ensures { Decides result (Begins letter least bytes.now) }
 {
-    if bytes.len() < least {
-        return false;
-    }
-    let z = byte(bytes, 0);
-    if z != b'Z' {
-        return false;
-    }
-    let s = byte(bytes, 1);
-    if s != b'S' {
-        return false;
-    }
-    let third = byte(bytes, 2);
-    if third != letter {
-        return false;
-    }
-    let high = byte(bytes, 3);
-    if high != 0 {
-        return false;
-    }
-    let low = byte(bytes, 4);
-    if low != 1 {
-        return false;
-    }
-    true
+    bytes.len() >= least && bytes.starts_with(&[b'Z', b'S', letter, 0, 1])
 }
