@@ -44,26 +44,12 @@ fn entries_fit(table: &[u8]) -> bool
     ensures { Decides result (EntriesFit table.now) }
 {
     let m = byte(table, 5);
-    if m < 1 {
-        return false;
-    }
-    if 64 < m {
-        return false;
-    }
-    if table.len() != 6 + 6 * m as usize {
-        return false;
-    }
-    true
+    (1..=64).contains(&m) && table.len() == 6 + 6 * m as usize
 }
 
 fn bad_record(image: &[u8], table: &[u8]) -> bool
     ensures { Decides result (BadRecord image.now table.now) }
 {
     let m = byte(table, 5);
-    for e in 0..m {
-        if !record::ruled(image, e, record::entry(table, e as usize)) {
-            return true;
-        }
-    }
-    false
+    (0..m).any(|e| !record::ruled(image, e, record::entry(table, e as usize)))
 }

@@ -11,13 +11,13 @@ use Rattle.line.proofs.refused.Goals as goal
 
 pub returns-then-out-digits : goal.returns-then-out-digits
 returns-then-out-digits c =
-    let same = ap (λ (n : ℕ). length (decimal n)) c.number-n.ensures in
+    let same = ap (λ (n : ℕ). length (decimal n)) c.from-n.ensures in
     printed-nothing (refusal_line c.args.k) c.args.out.now
     (omega (arith, c.if-out-digits.true, c.digits.ensures.is, same, refusal-length c.args.k))
 
 pub returns : goal.returns
 returns c =
-    refusal-line c.args.k c.number-n.result c.number-n.ensures
+    refusal-line c.args.k c.from-n.result c.from-n.ensures
     c.put_word-word.ensures
     c.put-count.ensures
     c.put_decimal-end.ensures
