@@ -2,8 +2,7 @@
 --
 --     small-setup, setup-lent, goal-hand
 --                                      what the readers of steps go by holds of a setup that is not refused
---     asked-read, asked-refused, own-question, by-given
---                                      the question, in each arm of its reader's answer, and by its own goal and start
+--     own-question, by-given           the question by its own goal and start
 --     reading-is, missing, wrong, fails, remain, whole
 --                                      the answer to the steps, in each arm of their reader's
 --     before-question, no_header, other-question, after-header
@@ -26,15 +25,13 @@ use Rattle.format.specs.Refusal.{number, Condition, Given, Clear}
 use Rattle.format.specs.Image.{stages_of, sets_in, graph_of}
 use Rattle.format.specs.Table.{entries_of, record_at, kind_of, sort_of, tree_of, RuledAs}
 use Rattle.format.specs.Question.{setup_conditions, question_conditions}
-use Rattle.format.specs.Answers.{QuestionRead, QuestionAnswer}
+use Rattle.format.specs.Answers.{QuestionRead}
 use Rattle.format.specs.declared.Refusal.{Refusal}
 use Rattle.format.specs.declared.Refusal.TheVariants as R
 use Rattle.format.specs.declared.record.Record.{Record}
 use Rattle.format.specs.declared.record.Sort.{Sort}
 use Rattle.format.specs.declared.record.Sort.TheVariants as S
 use Rattle.format.specs.declared.question.Question.{Question}
-use Rattle.format.specs.declared.question.Answer.{Answer as OfQuestion}
-use Rattle.format.specs.declared.question.Answer.TheVariants as Qu
 use Rattle.format.proofs.RefusalLaws.{given-first, given-later, clear_both}
 use Rattle.format.proofs.Decision.{stable, length-fits?}
 use Rattle.format.proofs.ReadableLaws as ReadableLaws
@@ -115,14 +112,6 @@ goal-hand {image} {table} {goal = goal} {start = start} clear lent = record {
     picked : (b : Bool) → pick b start 0 < stages_of image
     picked true = start-below image table goal start clear
     picked false = omega (arith, lent.some)
-
--- In each arm of the code's `match`: a question that was read, or the refusal that is given.
-module _ (image table : List ℕ) (goal start : ℕ) {a : OfQuestion} where
-  pub asked-read : {q : Question} → a ≡ Qu.Asked q → QuestionAnswer image table goal start a → QuestionRead image table goal start q
-  asked-read e r = subst (QuestionAnswer image table goal start) e r
-
-  pub asked-refused : {k : Refusal} → a ≡ Qu.Refused k → QuestionAnswer image table goal start a → Given (question_conditions image table goal start) k
-  asked-refused e r = subst (QuestionAnswer image table goal start) e r
 
 -- A question that was read is one by its own goal and start, which are those that were given.
 module _ {image table : List ℕ} {goal start : ℕ} {q : Question} (read : QuestionRead image table goal start q) where

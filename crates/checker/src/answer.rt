@@ -24,6 +24,6 @@ pub fn code(answer: Answer) -> u64
 {
     match answer {
         Answer::Accepted(side) => 128 + side as u64,
-        Answer::Refused(k) => format::number(k),
+        Answer::Refused(k) => u64::from(k),
     }
 }

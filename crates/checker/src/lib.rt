@@ -31,8 +31,8 @@ fn checked(image: &[u8], table: &[u8], certificate: &[u8], goal: u64, start: u64
     ensures { CheckedAnswer image.now table.now certificate.now goal start result }
 {
     match question::read(image, table, goal, start) {
-        question::Answer::Refused(k) => Checked::Refused(k, 0),
-        question::Answer::Asked(q) => {
+        Err(k) => Checked::Refused(k, 0),
+        Ok(q) => {
             if !header::fits(certificate) {
                 return Checked::Refused(Refusal::CertificateStart, 0);
             }

@@ -6,7 +6,7 @@
 --     listed-dead, listed-many      the set that the code lists, and that its number of stages fits a byte
 --     clear-image, all-stages, clear-row
 --                                   an image that the report does not refuse, its stages, and the row that is decoded of it
---     read-image, read-refused      the arms of the answer of the image's reader
+--     report-first                  a refusal of the image is one of the report
 --     report-nothing, report-clear, report-stages
 --                                   an image that was read is refused with 15, or not at all; its number of stages
 --     coded-report                  the number of a report and the lent buffer
@@ -36,12 +36,10 @@ use Rattle.modal.specs.Modal.{eu_of}
 use Rattle.modal.proofs.LawsMember.{below, has_all, inside-all}
 use Rattle.format.specs.Refusal.{Given, Clear}
 use Rattle.format.specs.Image.{stages_of, first_set, set_of, graph_of, image_conditions}
-use Rattle.format.specs.Answers.{ImageAnswer, ImageRead}
+use Rattle.format.specs.Answers.{ImageRead}
 use Rattle.format.specs.declared.Refusal.{Refusal}
 use Rattle.format.specs.declared.Refusal.TheVariants as R
 use Rattle.format.specs.declared.image.Shape.{Shape}
-use Rattle.format.specs.declared.image.Answer.{Answer}
-use Rattle.format.specs.declared.image.Answer.TheVariants as Im
 use Rattle.format.proofs.RefusalLaws.{given-first, given-later, clear_both, clear_first}
 use Rattle.format.proofs.ReadableLaws.{sizes, readable}
 use Rattle.hand.specs.Setup.{Decoded}
@@ -123,13 +121,9 @@ listed-many s c h e = omega (arith, ones-le width s h)
 
 -- ---- the reader of the image
 
-module _ (image : List ℕ) {a : Answer} (read : ImageAnswer image a) where
-  -- In each arm of the code's `match`: an image that was read, or the refusal that is given.
-  pub read-image : {shape : Shape} → a ≡ Im.Image shape → ImageRead image shape
-  read-image e = subst (ImageAnswer image) e read
-
-  pub read-refused : {k : Refusal} → a ≡ Im.Refused k → Given (report_conditions image) k
-  read-refused {k} e = given-first (image_conditions image) (fired_conditions image) k (subst (ImageAnswer image) e read)
+-- A refusal of the image comes before 15.
+pub report-first : {image : List ℕ} {k : Refusal} → Given (image_conditions image) k → Given (report_conditions image) k
+report-first {image} {k} g = given-first (image_conditions image) (fired_conditions image) k g
 
 -- An image that was read is refused with 15 where nothing fires, and else not at all.
 module _ {image : List ℕ} {shape : Shape} (read : ImageRead image shape) where

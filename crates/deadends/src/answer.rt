@@ -18,6 +18,6 @@ pub fn code(r: Report) -> u64
 {
     match r {
         Report::DeadEnds(_, count) => 128 + count as u64,
-        Report::Refused(k) => format::number(k),
+        Report::Refused(k) => u64::from(k),
     }
 }

@@ -23,8 +23,8 @@ pub fn report(image: &[u8]) -> Report
     ensures { ReportAnswer image.now result }
 {
     match image::read(image) {
-        image::Answer::Refused(k) => Report::Refused(k),
-        image::Answer::Image(shape) => {
+        Err(k) => Report::Refused(k),
+        Ok(shape) => {
             if nothing_fires(image) {
                 Report::Refused(Refusal::NothingFires)
             } else {

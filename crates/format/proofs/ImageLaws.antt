@@ -3,13 +3,15 @@
 use Prim.Native.Nat.{ℕ, zero, suc, ◌+◌, ◌-◌, ◌^◌, ◌≤◌, ◌<◌, min}
 use native.Mathlib.Omega.{arith}
 use native.Mathlib.Numerals.{add-one}
-use mathlib.Core.Path.{◌≡◌, refl, ap, ◌∙◌}
+use mathlib.Core.Path.{◌≡◌, ap, subst, ◌∙◌}
 use mathlib.Core.Bool.{Bool, true, false}
 use mathlib.Core.List.{List}
 use mathlib.Core.Logic.{◌⊎◌, inl, inr, ⊎_elim, ◌↔◌}
 use native.Mathlib.Nat.{pos_of_ne-zero}
 use lib.Bits.{bit_and}
 use lib.Dec.{eqb}
+use lib.ListN.{length, get_or-eq_default}
+use Rattle.model.specs.Decides.{Decides, decided, refuted}
 use Rattle.model.specs.Formula.{pick}
 use Rattle.sets.specs.Number.{width}
 use Rattle.sets.specs.Member.{Has, Within}
@@ -45,19 +47,16 @@ unfolding first_set
 first-least image zero = omega arith
 first-least image (suc q) = omega (arith, first-least image q)
 
--- An arity byte between 1 and 2.
-pub one-or-two : (a : ℕ) → 1 ≤ a → a ≤ 2 → (a ≡ 1) ⊎ (a ≡ 2)
-one-or-two zero p q = absurd (omega arith)
-one-or-two (suc zero) p q = inl refl
-one-or-two (suc (suc zero)) p q = inr refl
-one-or-two (suc (suc (suc a))) p q = absurd (omega arith)
+-- An arity byte that is 1 or 2 is there: past the end it would be 0.
+pub arity-fits : (image : List ℕ) (q : ℕ) {a : ℕ} → a ≡ arity_of image q → (a ≡ 1) ⊎ (a ≡ 2) → ArityFits image q
+arity-fits image q {a} a-is e = record { there = ⊎_elim (λ h. h) (λ h. absurd (past h)) (side? (7 + q) (length image)); arity = subst (λ (a : ℕ). (a ≡ 1) ⊎ (a ≡ 2)) a-is e }
+  where
+    past : length image ≤ 7 + q → ⊥
+    past h = elim e [ inl f ↦ omega (arith, get_or-eq_default image 0 h) | inr f ↦ omega (arith, get_or-eq_default image 0 h) ]
 
--- An arity byte that fits is at least 1, and at most 2.
-pub arity-from : (image : List ℕ) (q : ℕ) → ArityFits image q → 1 ≤ arity_of image q
-arity-from image q f = elim f.arity [ inl e ↦ omega arith | inr e ↦ omega arith ]
-
-pub arity-to : (image : List ℕ) (q : ℕ) → ArityFits image q → arity_of image q ≤ 2
-arity-to image q f = elim f.arity [ inl e ↦ omega arith | inr e ↦ omega arith ]
+-- One that is neither does not fit.
+pub arity-breaks : (image : List ℕ) (q : ℕ) {a : ℕ} → a ≡ arity_of image q → (a ≡ 1 → ⊥) → (a ≡ 2 → ⊥) → ArityFits image q → ⊥
+arity-breaks image q a-is f g fits = elim fits.arity [ inl e ↦ f (a-is ∙ e) | inr e ↦ g (a-is ∙ e) ]
 
 -- What is in one set and not in another, where the one is not within the other.
 pub outside : (a b : ℕ) → (Within a b → ⊥) → (k : ℕ) × (Has a k × (Has b k → ⊥))
@@ -80,9 +79,10 @@ pub count-is : (image : List ℕ) (p count : ℕ) → count ≡ first_set image 
 count-is image p count e d = e ∙ ap (first_set image) d
 
 -- A set that is not within the stages below n has a bit n or above.
-pub some-high : (image : List ℕ) (i s all : ℕ) → s ≡ set_of image i → ((k : ℕ) → Has all k ↔ (k < stages_of image)) → (Within s all → ⊥) → HighBitIn image i
-some-high image i s all s-is all-is f =
-    let found = outside s all f in
+pub some-high : (image : List ℕ) (i s all : ℕ) {within : Bool} → s ≡ set_of image i → ((k : ℕ) → Has all k ↔ (k < stages_of image))
+    → Decides within (Within s all) → within ≡ false → HighBitIn image i
+some-high image i s all s-is all-is d e =
+    let found = outside s all (refuted _ d e) in
     record {
       stage = found.0;
       high = ⊎_elim (λ h. absurd (found.1.1 ((all-is found.0).1 h))) (λ h. h) (side? found.0 (stages_of image));
@@ -90,9 +90,10 @@ some-high image i s all s-is all-is f =
     }
 
 -- A set within the stages below n has none.
-pub none-high : (image : List ℕ) (i s all : ℕ) → s ≡ set_of image i → ((k : ℕ) → Has all k ↔ (k < stages_of image)) → Within s all → HighBitIn image i → ⊥
-none-high image i s all s-is all-is w h =
-    omega (arith, (all-is h.stage).0 (w h.stage (rw s-is h.in_set)), h.high)
+pub none-high : (image : List ℕ) (i s all : ℕ) {within : Bool} → s ≡ set_of image i → ((k : ℕ) → Has all k ↔ (k < stages_of image))
+    → Decides within (Within s all) → within ≡ true → HighBitIn image i → ⊥
+none-high image i s all s-is all-is d e h =
+    omega (arith, (all-is h.stage).0 (decided _ d e h.stage (rw s-is h.in_set)), h.high)
 
 -- Where no bit n or above is set and not all successor sets are plain, a stage has no successor.
 pub plain-stop : (image : List ℕ) (r : ℕ) → Plain image r → (HighBit image → ⊥) → r < stages_of image → DeadStop image

@@ -1,4 +1,5 @@
 -- The laws of the stored forms, over plain values: each function's proof hands its facts to them.
+pub mod RangeLaws
 pub mod ImageLaws
 pub mod RefusalLaws
 pub mod RecordLaws

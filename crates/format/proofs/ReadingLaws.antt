@@ -1,6 +1,6 @@
 -- From what the readers found to what they answer: what the operands' test needs of a table without a bad record, and shapes and
 -- refusals of image, table and question together.
-use Prim.Native.Nat.{ℕ, zero, suc, ◌<◌, ◌%◌}
+use Prim.Native.Nat.{ℕ, zero, suc, ◌<◌}
 use native.Mathlib.Omega.{arith}
 use mathlib.Core.Path.{◌≡◌, ap}
 use mathlib.Core.List.{List, [], ◌∷◌}
@@ -47,16 +47,16 @@ all_small image table fits good e h =
     ruled-small (sort_of (kind_of (record_at table e).kind)) image e (record_at table e) (omega (arith, fits.most)) (all-ruled image table good e h)
 
 -- What the shape of a readable image and table says of them.
-module _ (image table : List ℕ) (shape : Shape) (was : TableRead image table shape) where
+module _ {image table : List ℕ} {shape : Shape} (was : TableRead image table shape) where
   pub shape-entries : shape.entries ≡ entries_of table
   shape-entries = ap (λ (s : Shape). s.entries) was.is
 
   pub shape-stages : shape.image.stages ≡ stages_of image
   shape-stages = ap (λ (s : Shape). s.image.stages) was.is
 
-  -- A goal or a start that is below its bound is its own last byte.
-  pub goal-byte : (goal : ℕ) → goal < shape.entries → goal % 256 ≡ goal
-  goal-byte goal h = omega (arith, shape-entries, (entries image table (of-table image table was.clear)).most)
+  -- A goal or a start that is below its bound fits a byte.
+  pub goal-byte : {goal : ℕ} → goal < shape.entries → goal < 256
+  goal-byte h = omega (arith, shape-entries, (entries image table (of-table image table was.clear)).most)
 
-  pub start-byte : (start : ℕ) → start < shape.image.stages → start % 256 ≡ start
-  start-byte start h = omega (arith, shape-stages, (sizes image (of_image image table was.clear)).stages)
+  pub start-byte : {start : ℕ} → start < shape.image.stages → start < 256
+  start-byte h = omega (arith, shape-stages, (sizes image (of_image image table was.clear)).stages)

@@ -17,35 +17,29 @@ pub struct Shape {
     pub sets: usize,
 }
 
-#[derive(Clone, Copy)]
-pub enum Answer {
-    Image(Shape),
-    Refused(Refusal),
-}
-
 // The image's shape, or the first of its refusals.
-pub fn read(image: &[u8]) -> Answer
+pub fn read(image: &[u8]) -> Result<Shape, Refusal>
     ensures { ImageAnswer image.now result }
 {
     if !begins(image, b'M', 7) {
-        return Answer::Refused(Refusal::ImageStart);
+        return Err(Refusal::ImageStart);
     }
     if !sizes_fit(image) {
-        return Answer::Refused(Refusal::ImageSizes);
+        return Err(Refusal::ImageSizes);
     }
     if !length_fits(image) {
-        return Answer::Refused(Refusal::ImageLength);
+        return Err(Refusal::ImageLength);
     }
     let plain = plain_sets(image);
     if high_bit(image, plain) {
-        return Answer::Refused(Refusal::BitTooHigh);
+        return Err(Refusal::BitTooHigh);
     }
     let n = byte(image, 5) as usize;
     if plain < n {
-        return Answer::Refused(Refusal::NoSuccessor);
+        return Err(Refusal::NoSuccessor);
     }
     let p = byte(image, 6);
-    Answer::Image(Shape {
+    Ok(Shape {
         stages: n,
         predicates: p as usize,
         sets: first_set(image, p),
@@ -84,49 +78,21 @@ fn sizes_fit(image: &[u8]) -> bool
 {
     let n = byte(image, 5);
     let p = byte(image, 6);
-    if n < 1 {
-        return false;
-    }
-    if 64 < n {
-        return false;
-    }
-    if 16 < p {
-        return false;
-    }
-    true
+    (1..=64).contains(&n) && p <= 16
 }
 
 fn arities_fit(image: &[u8]) -> bool
     ensures { Decides result (AritiesFit image.now) }
 {
-    let p = byte(image, 6) as usize;
-    for q in 0..p {
-        if image.len() <= 7 + q {
-            return false;
-        }
-        let arity = byte(image, 7 + q);
-        if arity < 1 {
-            return false;
-        }
-        if 2 < arity {
-            return false;
-        }
-    }
-    true
+    let p = byte(image, 6);
+    (0..p).all(|q| matches!(byte(image, 7 + q as usize), 1 | 2))
 }
 
 fn length_fits(image: &[u8]) -> bool
     ensures { Decides result (LengthFits image.now) }
 {
-    if !arities_fit(image) {
-        return false;
-    }
     let p = byte(image, 6);
-    let total = 7 + p as usize + sets::BYTES * first_set(image, p);
-    if image.len() != total {
-        return false;
-    }
-    true
+    arities_fit(image) && image.len() == 7 + p as usize + sets::BYTES * first_set(image, p)
 }
 
 // How many of the successor sets, from the first on, have a stage and none at n or above: all of them where nothing is to be refused.
@@ -138,10 +104,7 @@ fn plain_sets(image: &[u8]) -> usize
     let all = sets::below(n);
     for i in 0..n {
         let s = set(image, i);
-        if !sets::subset(s, all) {
-            return i;
-        }
-        if sets::is_empty(s) {
+        if !sets::subset(s, all) || sets::is_empty(s) {
             return i;
         }
     }
@@ -155,10 +118,5 @@ fn high_bit(image: &[u8], plain: usize) -> bool
 {
     let all = sets::below(byte(image, 5) as usize);
     let count = first_set(image, byte(image, 6));
-    for i in plain..count {
-        if !sets::subset(set(image, i), all) {
-            return true;
-        }
-    }
-    false
+    (plain..count).any(|i| !sets::subset(set(image, i), all))
 }

@@ -14,60 +14,39 @@ ghost use Rattle.model.specs.Decides.{Decides};
 ghost use Rattle.format.specs.Bytes.{Begins};
 ghost use Rattle.format.specs.Refusal.{number};
 
-// The refusals, in the order of their numbers.
-#[derive(Clone, Copy)]
+// The refusals, with their numbers.
+#[derive(Clone, Copy, PartialEq, Eq)]
 pub enum Refusal {
-    ImageStart,
-    ImageSizes,
-    ImageLength,
-    BitTooHigh,
-    NoSuccessor,
-    TableStart,
-    TableLength,
-    BadRecord,
-    OperandTwice,
-    NestedTooDeep,
-    NoSuchGoal,
-    NoSuchStart,
-    FreeVariable,
-    BufferTooShort,
-    NothingFires,
-    NotOfShape,
-    CertificateStart,
-    OtherQuestion,
-    ByteMissing,
-    WrongCode,
-    ConditionFails,
-    BytesRemain,
+    ImageStart = 1,
+    ImageSizes = 2,
+    ImageLength = 3,
+    BitTooHigh = 4,
+    NoSuccessor = 5,
+    TableStart = 6,
+    TableLength = 7,
+    BadRecord = 8,
+    OperandTwice = 9,
+    NestedTooDeep = 10,
+    NoSuchGoal = 11,
+    NoSuchStart = 12,
+    FreeVariable = 13,
+    BufferTooShort = 14,
+    NothingFires = 15,
+    NotOfShape = 16,
+    CertificateStart = 20,
+    OtherQuestion = 21,
+    ByteMissing = 22,
+    WrongCode = 23,
+    ConditionFails = 24,
+    BytesRemain = 25,
 }
 
 // The refusal's number.
-pub fn number(k: Refusal) -> u64
-    ensures { result ≡ number k }
-{
-    match k {
-        Refusal::ImageStart => 1,
-        Refusal::ImageSizes => 2,
-        Refusal::ImageLength => 3,
-        Refusal::BitTooHigh => 4,
-        Refusal::NoSuccessor => 5,
-        Refusal::TableStart => 6,
-        Refusal::TableLength => 7,
-        Refusal::BadRecord => 8,
-        Refusal::OperandTwice => 9,
-        Refusal::NestedTooDeep => 10,
-        Refusal::NoSuchGoal => 11,
-        Refusal::NoSuchStart => 12,
-        Refusal::FreeVariable => 13,
-        Refusal::BufferTooShort => 14,
-        Refusal::NothingFires => 15,
-        Refusal::NotOfShape => 16,
-        Refusal::CertificateStart => 20,
-        Refusal::OtherQuestion => 21,
-        Refusal::ByteMissing => 22,
-        Refusal::WrongCode => 23,
-        Refusal::ConditionFails => 24,
-        Refusal::BytesRemain => 25,
+impl From<Refusal> for u64 {
+    ghost from_gives = { λ k n. n ≡ number k };
+
+    fn from(k: Refusal) -> u64 {
+        k as u64
     }
 }
 
@@ -82,28 +61,5 @@ pub fn byte(bytes: &[u8], at: usize) -> u8
 fn begins(bytes: &[u8], letter: u8, least: usize) -> bool
     ensures { Decides result (Begins letter least bytes.now) }
 {
-    if bytes.len() < least {
-        return false;
-    }
-    let z = byte(bytes, 0);
-    if z != b'Z' {
-        return false;
-    }
-    let s = byte(bytes, 1);
-    if s != b'S' {
-        return false;
-    }
-    let third = byte(bytes, 2);
-    if third != letter {
-        return false;
-    }
-    let high = byte(bytes, 3);
-    if high != 0 {
-        return false;
-    }
-    let low = byte(bytes, 4);
-    if low != 1 {
-        return false;
-    }
-    true
+    bytes.len() >= least && bytes.starts_with(&[b'Z', b'S', letter, 0, 1])
 }

@@ -15,12 +15,10 @@ fn nested(table: &[u8], e: u8) -> usize
     let r = record::entry(table, e as usize);
     let sort = record::sort_of(record::kind_of(r.kind));
     match sort {
-        Sort::Constant => 0,
-        Sort::Atom => 0,
-        Sort::Junction => larger(nested_below(table, e, r.a), nested_below(table, e, r.b)),
+        Sort::Constant | Sort::Atom | Sort::NoSort => 0,
+        Sort::Junction => nested_below(table, e, r.a).max(nested_below(table, e, r.b)),
         Sort::Unary => 1 + nested_below(table, e, r.a),
-        Sort::Binary => 1 + larger(nested_below(table, e, r.a), nested_below(table, e, r.b)),
-        Sort::NoSort => 0,
+        Sort::Binary => 1 + nested_below(table, e, r.a).max(nested_below(table, e, r.b)),
     }
 }
 
@@ -32,24 +30,11 @@ fn nested_below(table: &[u8], e: u8, o: u8) -> usize
     if o < e { nested(table, o) } else { 0 }
 }
 
-fn larger(a: usize, b: usize) -> usize
-    ensures { result ≡ max a b }
-{
-    if a < b { b } else { a }
-}
-
 // Whether an entry is operand of none, as the flags say, and its formula nests over 4 modalities.
 fn deep_root(image: &[u8], table: &[u8], seen: &[u8], e: u8) -> bool
     ensures { Decides result (DeepRoot image.now table.now seen.now e) }
 {
-    let flag = byte(seen, e as usize);
-    if flag == 1 {
-        return false;
-    }
-    if 4 < nested(table, e) {
-        return true;
-    }
-    false
+    byte(seen, e as usize) != 1 && 4 < nested(table, e)
 }
 
 // Whether some formula nests over 4 modalities. Only entries that are operands of none are asked: an operand's formula nests no deeper than
@@ -59,10 +44,5 @@ pub(crate) fn nested_too_deep(image: &[u8], table: &[u8], seen: &[u8]) -> bool
     ensures { Decides result (NestedTooDeep image.now table.now) }
 {
     let m = byte(table, 5);
-    for e in 0..m {
-        if deep_root(image, table, seen, e) {
-            return true;
-        }
-    }
-    false
+    (0..m).any(|e| deep_root(image, table, seen, e))
 }

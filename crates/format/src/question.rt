@@ -2,7 +2,7 @@
 ghost use Rattle.std.specs.Prelude.{◌<◌};
 ghost use Rattle.model.specs.Decides.{Decides};
 ghost use Rattle.format.specs.Question.{OtherFree};
-ghost use Rattle.format.specs.Answers.{TableRead, QuestionAnswer};
+ghost use Rattle.format.specs.Answers.{QuestionAnswer};
 
 use crate::{Refusal, table, variables};
 
@@ -14,42 +14,26 @@ pub struct Question {
     pub start: u8,
 }
 
-#[derive(Clone, Copy)]
-pub enum Answer {
-    Asked(Question),
-    Refused(Refusal),
-}
-
 // The question, or the first of its refusals. Goal and start are wide, so that neither is taken for another.
-pub fn read(image: &[u8], table: &[u8], goal: u64, start: u64) -> Answer
+pub fn read(image: &[u8], table: &[u8], goal: u64, start: u64) -> Result<Question, Refusal>
     ensures { QuestionAnswer image.now table.now goal start result }
 {
-    match table::read(image, table) {
-        table::Answer::Refused(k) => Answer::Refused(k),
-        table::Answer::Table(shape) => read_with(image, table, shape, goal, start),
-    }
-}
-
-// The same where image and table are readable and have this shape.
-fn read_with(image: &[u8], table: &[u8], shape: table::Shape, goal: u64, start: u64) -> Answer
-    requires { TableRead image.now table.now shape }
-    ensures { QuestionAnswer image.now table.now goal start result }
-{
+    let shape = table::read(image, table)?;
     let inner = shape.image;
     if shape.entries as u64 <= goal {
-        return Answer::Refused(Refusal::NoSuchGoal);
+        return Err(Refusal::NoSuchGoal);
     }
     if inner.stages as u64 <= start {
-        return Answer::Refused(Refusal::NoSuchStart);
+        return Err(Refusal::NoSuchStart);
     }
-    let g = (goal % 256) as u8;
+    let g = goal as u8;
     if other_free(image, table, g) {
-        return Answer::Refused(Refusal::FreeVariable);
+        return Err(Refusal::FreeVariable);
     }
-    Answer::Asked(Question {
-        shape: shape,
+    Ok(Question {
+        shape,
         goal: g,
-        start: (start % 256) as u8,
+        start: start as u8,
     })
 }
 
@@ -58,10 +42,5 @@ fn other_free(image: &[u8], table: &[u8], goal: u8) -> bool
     ensures { Decides result (OtherFree image.now table.now goal) }
 {
     let free = variables::free(image, table, goal);
-    for v in 1..4 {
-        if sets::has(free, v) {
-            return true;
-        }
-    }
-    false
+    (1..4).any(|v| sets::has(free, v))
 }

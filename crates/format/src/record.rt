@@ -72,18 +72,11 @@ pub fn sort_of(kind: Kind) -> Sort
     ensures { result ≡ sort_of kind }
 {
     match kind {
-        Kind::True => Sort::Constant,
-        Kind::False => Sort::Constant,
-        Kind::Is => Sort::Atom,
-        Kind::IsNot => Sort::Atom,
-        Kind::And => Sort::Junction,
-        Kind::Or => Sort::Junction,
-        Kind::AX => Sort::Unary,
-        Kind::EX => Sort::Unary,
-        Kind::AF => Sort::Unary,
-        Kind::EG => Sort::Unary,
-        Kind::AR => Sort::Binary,
-        Kind::EU => Sort::Binary,
+        Kind::True | Kind::False => Sort::Constant,
+        Kind::Is | Kind::IsNot => Sort::Atom,
+        Kind::And | Kind::Or => Sort::Junction,
+        Kind::AX | Kind::EX | Kind::AF | Kind::EG => Sort::Unary,
+        Kind::AR | Kind::EU => Sort::Binary,
         Kind::NoKind => Sort::NoSort,
     }
 }
@@ -136,52 +129,19 @@ fn entry_byte_by_byte(table: &[u8], e: usize) -> Record
 fn is_term(n: u8, t: u8) -> bool
     ensures { Decides result (IsTerm n t) }
 {
-    if t < n {
-        return true;
-    }
-    if t < 64 {
-        return false;
-    }
-    if 67 < t {
-        return false;
-    }
-    true
+    t < n || (64..=67).contains(&t)
 }
 
 fn second_term(n: u8, arity: u8, b: u8) -> bool
     ensures { Decides result (SecondTerm n arity b) }
 {
-    if arity != 2 {
-        if b != 0 {
-            return false;
-        }
-        return true;
-    }
-    if is_term(n, b) {
-        return true;
-    }
-    false
+    if arity == 2 { is_term(n, b) } else { b == 0 }
 }
 
 fn constant_rule(r: Record) -> bool
     ensures { Decides result (ConstantRule r) }
 {
-    if r.a != 0 {
-        return false;
-    }
-    if r.b != 0 {
-        return false;
-    }
-    if r.x != 0 {
-        return false;
-    }
-    if r.y != 0 {
-        return false;
-    }
-    if r.t != 0 {
-        return false;
-    }
-    true
+    r.a == 0 && r.b == 0 && r.x == 0 && r.y == 0 && r.t == 0
 }
 
 fn atom_rule(image: &[u8], r: Record) -> bool
@@ -189,85 +149,29 @@ fn atom_rule(image: &[u8], r: Record) -> bool
 {
     let n = byte(image, 5);
     let p = byte(image, 6);
-    if p <= r.a {
-        return false;
-    }
-    if !is_term(n, r.t) {
-        return false;
-    }
-    if !second_term(n, byte(image, 7 + r.a as usize), r.b) {
-        return false;
-    }
-    if r.x != 0 {
-        return false;
-    }
-    if r.y != 0 {
-        return false;
-    }
-    true
+    r.a < p
+        && is_term(n, r.t)
+        && second_term(n, byte(image, 7 + r.a as usize), r.b)
+        && r.x == 0
+        && r.y == 0
 }
 
 fn junction_rule(e: u8, r: Record) -> bool
     ensures { Decides result (JunctionRule e r) }
 {
-    if e <= r.a {
-        return false;
-    }
-    if e <= r.b {
-        return false;
-    }
-    if r.x != 0 {
-        return false;
-    }
-    if r.y != 0 {
-        return false;
-    }
-    if r.t != 0 {
-        return false;
-    }
-    true
+    r.a < e && r.b < e && r.x == 0 && r.y == 0 && r.t == 0
 }
 
 fn unary_rule(n: u8, e: u8, r: Record) -> bool
     ensures { Decides result (UnaryRule n e r) }
 {
-    if e <= r.a {
-        return false;
-    }
-    if r.b != 0 {
-        return false;
-    }
-    if 3 < r.x {
-        return false;
-    }
-    if r.y != 0 {
-        return false;
-    }
-    if !is_term(n, r.t) {
-        return false;
-    }
-    true
+    r.a < e && r.b == 0 && r.x <= 3 && r.y == 0 && is_term(n, r.t)
 }
 
 fn binary_rule(n: u8, e: u8, r: Record) -> bool
     ensures { Decides result (BinaryRule n e r) }
 {
-    if e <= r.a {
-        return false;
-    }
-    if e <= r.b {
-        return false;
-    }
-    if 3 < r.x {
-        return false;
-    }
-    if 3 < r.y {
-        return false;
-    }
-    if !is_term(n, r.t) {
-        return false;
-    }
-    true
+    r.a < e && r.b < e && r.x <= 3 && r.y <= 3 && is_term(n, r.t)
 }
 
 // Whether a record keeps the rules of its kind.

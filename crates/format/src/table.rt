@@ -1,15 +1,9 @@
 // Reading a formula table with its image: the shape of both, or one of the refusals 1 to 10.
 ghost use Rattle.model.specs.Decides.{Decides};
 ghost use Rattle.format.specs.Table.{EntriesFit, BadRecord};
-ghost use Rattle.format.specs.Answers.{ImageRead, TableAnswer};
+ghost use Rattle.format.specs.Answers.{TableAnswer};
 
 use crate::{Refusal, begins, byte, image, nesting, operands, record};
-
-#[derive(Clone, Copy)]
-pub enum Answer {
-    Table(Shape),
-    Refused(Refusal),
-}
 
 // What the bytes of a readable image and table say of their layout.
 #[derive(Clone, Copy)]
@@ -19,38 +13,28 @@ pub struct Shape {
 }
 
 // The shape of image and table, or the first of their refusals.
-pub fn read(image: &[u8], table: &[u8]) -> Answer
+pub fn read(image: &[u8], table: &[u8]) -> Result<Shape, Refusal>
     ensures { TableAnswer image.now table.now result }
 {
-    match image::read(image) {
-        image::Answer::Refused(k) => Answer::Refused(k),
-        image::Answer::Image(shape) => read_with(image, shape, table),
-    }
-}
-
-// The same where the image is readable and has this shape.
-fn read_with(image: &[u8], shape: image::Shape, table: &[u8]) -> Answer
-    requires { ImageRead image.now shape }
-    ensures { TableAnswer image.now table.now result }
-{
+    let shape = image::read(image)?;
     if !begins(table, b'F', 6) {
-        return Answer::Refused(Refusal::TableStart);
+        return Err(Refusal::TableStart);
     }
     if !entries_fit(table) {
-        return Answer::Refused(Refusal::TableLength);
+        return Err(Refusal::TableLength);
     }
     if bad_record(image, table) {
-        return Answer::Refused(Refusal::BadRecord);
+        return Err(Refusal::BadRecord);
     }
     let flags = operands::noted_all(table);
     if flags.twice {
-        return Answer::Refused(Refusal::OperandTwice);
+        return Err(Refusal::OperandTwice);
     }
     let seen = flags.seen;
     if nesting::nested_too_deep(image, table, &seen) {
-        return Answer::Refused(Refusal::NestedTooDeep);
+        return Err(Refusal::NestedTooDeep);
     }
-    Answer::Table(Shape {
+    Ok(Shape {
         image: shape,
         entries: byte(table, 5) as usize,
     })
@@ -60,26 +44,12 @@ fn entries_fit(table: &[u8]) -> bool
     ensures { Decides result (EntriesFit table.now) }
 {
     let m = byte(table, 5);
-    if m < 1 {
-        return false;
-    }
-    if 64 < m {
-        return false;
-    }
-    if table.len() != 6 + 6 * m as usize {
-        return false;
-    }
-    true
+    (1..=64).contains(&m) && table.len() == 6 + 6 * m as usize
 }
 
 fn bad_record(image: &[u8], table: &[u8]) -> bool
     ensures { Decides result (BadRecord image.now table.now) }
 {
     let m = byte(table, 5);
-    for e in 0..m {
-        if !record::ruled(image, e, record::entry(table, e as usize)) {
-            return true;
-        }
-    }
-    false
+    (0..m).any(|e| !record::ruled(image, e, record::entry(table, e as usize)))
 }

@@ -60,7 +60,7 @@ pub fn yes_no(side: u8, certificate: &[u8], out: &mut [u8]) -> Option<usize>
 pub fn refused(k: Refusal, out: &mut [u8]) -> Option<usize>
     ensures { Printed (refusal_line k) out.old out.new result }
 {
-    let n = format::number(k) as usize;
+    let n = u64::from(k) as usize;
     // The word, the space and the line feed besides.
     if out.len() < digits(n) + 9 {
         return None;

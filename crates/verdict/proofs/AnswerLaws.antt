@@ -3,8 +3,6 @@
 --     question-ready         a question that is not refused has all that an evaluation goes by
 --     question-row           the row that is decoded for it holds its graph
 --     question-own           a question is read with its own goal and start
---     asked-read, asked-refused
---                            the arms of the answer of the question's reader
 --     goal-test              the test of the goal where variable 0 stands at the start
 --     yes-answer, no_answer  what the test says of the goal and of its dual
 --
@@ -25,15 +23,12 @@ use Rattle.logic.proofs.Duality.{dual-holds}
 use Rattle.sets.specs.Number.{width}
 use Rattle.sets.specs.Row.{words}
 use Rattle.modal.specs.Row.{Row}
-use Rattle.format.specs.Refusal.{Given, Clear}
+use Rattle.format.specs.Refusal.{Clear}
 use Rattle.format.specs.Image.{stages_of, graph_of}
 use Rattle.format.specs.Table.{tree_of}
 use Rattle.format.specs.Question.{question_conditions}
-use Rattle.format.specs.Answers.{QuestionRead, QuestionAnswer}
-use Rattle.format.specs.declared.Refusal.{Refusal}
+use Rattle.format.specs.Answers.{QuestionRead}
 use Rattle.format.specs.declared.question.Question.{Question}
-use Rattle.format.specs.declared.question.Answer.{Answer}
-use Rattle.format.specs.declared.question.Answer.TheVariants as Qu
 use Rattle.format.proofs.ReadableLaws.{of-setup, of_image, sizes, readable, ruled, tree-below, goal-below, start-below}
 use Rattle.verdict.specs.Evaluation.{Ready, truth_of}
 use Rattle.verdict.specs.Verdict.{Answered, goal_test}
@@ -94,14 +89,6 @@ module _ {image table : List ℕ} {goal start : ℕ} (clear : Clear (question_co
 -- The test of an entry at the start, as the code has the variables, is that of the goal.
 pub goal-test : (image table : List ℕ) (goal start : ℕ) {b : Bool} → b ≡ truth_of image table goal (start_env start) → b ≡ goal_test image table goal start
 goal-test image table goal start e = e ∙ ap (test (graph_of image) (tree_of image table goal)) (start-env start)
-
--- In each arm of the code's `match`: a question that was read, or the refusal that is given.
-module _ (image table : List ℕ) (goal start : ℕ) {a : Answer} where
-  pub asked-read : {q : Question} → a ≡ Qu.Asked q → QuestionAnswer image table goal start a → QuestionRead image table goal start q
-  asked-read e r = subst (QuestionAnswer image table goal start) e r
-
-  pub asked-refused : {k : Refusal} → a ≡ Qu.Refused k → QuestionAnswer image table goal start a → Given (question_conditions image table goal start) k
-  asked-refused e r = subst (QuestionAnswer image table goal start) e r
 
 -- A question is read with its own goal and start.
 module _ {image table : List ℕ} {goal start : ℕ} {q : Question} (read : QuestionRead image table goal start q) where

@@ -19,6 +19,6 @@ pub fn code(v: Verdict) -> u64
     match v {
         Verdict::Yes => 128,
         Verdict::No => 129,
-        Verdict::Refused(k) => format::number(k),
+        Verdict::Refused(k) => u64::from(k),
     }
 }

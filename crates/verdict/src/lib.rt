@@ -36,8 +36,8 @@ pub fn verdict(image: &[u8], table: &[u8], goal: u64, start: u64) -> Verdict
     ensures { VerdictAnswer image.now table.now goal start result }
 {
     match question::read(image, table, goal, start) {
-        question::Answer::Refused(k) => Verdict::Refused(k),
-        question::Answer::Asked(q) => {
+        Err(k) => Verdict::Refused(k),
+        Ok(q) => {
             if goal_holds(image, table, q) {
                 Verdict::Yes
             } else {

@@ -17,7 +17,7 @@ use lib.ListN.{length, drop}
 use lib.Seq.{sets-eq}
 use Rattle.model.specs.Formula.{Env}
 use Rattle.logic.specs.Test.{test}
-use Rattle.format.specs.Refusal.{Clear}
+use Rattle.format.specs.Refusal.{Given, Clear}
 use Rattle.logic.proofs.Duality.{test-dual}
 use Rattle.sets.specs.Number.{width}
 use Rattle.sets.specs.Row.{words}
@@ -26,12 +26,10 @@ use Rattle.modal.specs.Row.{Row}
 use Rattle.format.specs.Image.{stages_of, graph_of}
 use Rattle.format.specs.Table.{entries_of, tree_of}
 use Rattle.format.specs.Question.{question_conditions}
-use Rattle.format.specs.Answers.{QuestionRead, QuestionAnswer}
+use Rattle.format.specs.Answers.{QuestionRead}
 use Rattle.format.specs.declared.Refusal.{Refusal}
 use Rattle.format.specs.declared.Refusal.TheVariants as R
 use Rattle.format.specs.declared.question.Question.{Question}
-use Rattle.format.specs.declared.question.Answer.{Answer as Read}
-use Rattle.format.specs.declared.question.Answer.TheVariants as Qu
 use Rattle.format.proofs.RefusalLaws.{given-first, given-later, clear_both}
 use Rattle.format.proofs.ReadableLaws
 use Rattle.format.proofs.ReadableLaws.{of-setup, of_image, of-table, sizes}
@@ -41,7 +39,7 @@ use Rattle.hand.specs.declared.env.Env.{Env as Slots}
 use Rattle.hand.proofs.HandLaws.{successors-in}
 use Rattle.hand.proofs.EnvironmentLaws.{start-env}
 use Rattle.verdict.specs.Evaluation.{truth_of}
-use Rattle.verdict.proofs.AnswerLaws.{start_env, asked-readable, question-ready, question-row, asked-refused, own-goal, own-start}
+use Rattle.verdict.proofs.AnswerLaws.{start_env, asked-readable, question-ready, question-row, own-goal, own-start}
 use Rattle.guide.specs.Sides.{truth_on}
 use Rattle.pen.specs.Wrote.{Wrote}
 use Rattle.pen.specs.Steps.{entry_steps, whole_bytes, Holding}
@@ -139,15 +137,13 @@ question-holding {image} {table} {next} {entries} {before} {blank} {q} {side} re
 
 -- ---- the question
 
-module _ (image table : List ℕ) (goal start : ℕ) (buffer : List ℕ) {a : Read} (read : QuestionAnswer image table goal start a) where
-  -- A refusal of the question comes before 14, and changes nothing.
-  pub question-refused : {k : Refusal} → a ≡ Qu.Refused k → WriteAnswer image table goal start buffer buffer (An.Refused k)
-  question-refused {k} e = record {
-    given =
-        given-first (question_conditions image table goal start) (room_conditions image table goal start buffer) k
-        (asked-refused image table goal start e read);
-    kept = refl;
-  }
+-- A refusal of the question comes before 14, and changes nothing.
+pub question-refused : (image table : List ℕ) (goal start : ℕ) (buffer : List ℕ) {k : Refusal} → Given (question_conditions image table goal start) k
+    → WriteAnswer image table goal start buffer buffer (An.Refused k)
+question-refused image table goal start buffer {k} g = record {
+  given = given-first (question_conditions image table goal start) (room_conditions image table goal start buffer) k g;
+  kept = refl;
+}
 
 -- A question is answered with its own goal and start.
 pub question-answered : {image table : List ℕ} {goal start : ℕ} {q : Question} → QuestionRead image table goal start q → (before after : List ℕ) (r : Answer)

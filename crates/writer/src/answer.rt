@@ -17,7 +17,7 @@ pub fn code(answer: Answer) -> u64
 {
     match answer {
         Answer::Written { side, length: _ } => 128 + side as u64,
-        Answer::Refused(k) => format::number(k),
+        Answer::Refused(k) => u64::from(k),
     }
 }
 

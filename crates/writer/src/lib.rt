@@ -25,8 +25,8 @@ pub fn write(image: &[u8], table: &[u8], goal: u64, start: u64, buffer: &mut [u8
     ensures { WriteAnswer image.now table.now goal start buffer.old buffer.new result }
 {
     match question::read(image, table, goal, start) {
-        question::Answer::Refused(k) => Answer::Refused(k),
-        question::Answer::Asked(q) => answered(image, table, q, buffer),
+        Err(k) => Answer::Refused(k),
+        Ok(q) => answered(image, table, q, buffer),
     }
 }
 

@@ -1,20 +1,15 @@
 -- `deadends::report` meets its contract: the refusal of the image, or 15, or what `listed` ensures.
 use Rattle.model.specs.Decides.{decided, refuted}
-use Rattle.deadends.specs.DeadEnd.{NothingFires}
-use Rattle.deadends.proofs.DeadEndLaws.{read-image, read-refused, report-nothing, report-clear, report-stages}
+use Rattle.deadends.proofs.DeadEndLaws.{report-first, report-nothing, report-clear, report-stages}
 use Rattle.deadends.proofs.report.Goals as goal
 
 pub listed-requires : goal.listed-requires
 listed-requires c =
-    let image = c.args.image.now in
-    let read = read-image image c.read.ensures c.in-Image.is in
-    (report-clear read (refuted (NothingFires image) c.nothing_fires.ensures c.if-nothing_fires.false), report-stages read)
+    (report-clear c.in-Ok.ensures (refuted _ c.nothing_fires.ensures c.if-nothing_fires.false), report-stages c.in-Ok.ensures)
 
-pub returns-in-Refused : goal.returns-in-Refused
-returns-in-Refused c = read-refused c.args.image.now c.read.ensures c.in-Refused.is
+pub returns-in-Err : goal.returns-in-Err
+returns-in-Err c = report-first c.in-Err.ensures
 
 pub returns-then-nothing_fires : goal.returns-then-nothing_fires
 returns-then-nothing_fires c =
-    let image = c.args.image.now in
-    let read = read-image image c.read.ensures c.in-Image.is in
-    report-nothing read (decided (NothingFires image) c.nothing_fires.ensures c.if-nothing_fires.true)
+    report-nothing c.in-Ok.ensures (decided _ c.nothing_fires.ensures c.if-nothing_fires.true)

@@ -6,5 +6,5 @@ use Rattle.line.proofs.refused.Goals as goal
 
 pub returns : goal.returns
 returns c =
-    let line = refusal-line c.args.k c.number-n.result c.number-n.ensures refl c.word.ensures c.decimal.ensures c.byte.ensures in
+    let line = refusal-line c.args.k c.from-n.result c.from-n.ensures refl c.word.ensures c.decimal.ensures c.byte.ensures in
     search (rules, line)

@@ -5,4 +5,4 @@ pub returns-in-Accepted : goal.returns-in-Accepted
 returns-in-Accepted c = rw c.in-Accepted.is
 
 pub returns-in-Refused : goal.returns-in-Refused
-returns-in-Refused c = rw c.in-Refused.is c.number.ensures
+returns-in-Refused c = rw c.in-Refused.is c.from.ensures

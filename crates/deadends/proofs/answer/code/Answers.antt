@@ -6,4 +6,4 @@ pub returns-in-DeadEnds : goal.returns-in-DeadEnds
 returns-in-DeadEnds c = rw c.in-DeadEnds.is (search rules)
 
 pub returns-in-Refused : goal.returns-in-Refused
-returns-in-Refused c = rw c.in-Refused.is c.number.ensures
+returns-in-Refused c = rw c.in-Refused.is c.from.ensures

@@ -10,6 +10,7 @@ use Rattle.model.specs.Decides.{decided, refuted}
 use Rattle.format.proofs.ImageLaws.{has_all, some-high, none-high}
 use borrow.Author.Rules.{rules}
 use Rattle.format.proofs.image.plain_sets.Goals as goal
+use Rattle.format.proofs.image.plain_sets.Goals.{then-not-subset-via-then-not-subset, then-not-subset-via-else-not-subset+then-is_empty}
 
 pub loop-i-init : goal.loop-i-init
 loop-i-init c = (search rules, below_none _, below_none _)
@@ -22,16 +23,11 @@ returns-then-not-subset c =
       most = omega (arith, c.byte-n.ensures, c.loop-i.invariant.0);
       low = c.loop-i.invariant.1;
       some = c.loop-i.invariant.2;
-      stops = λ h. inl (some-high image _ _ _ c.set-s.ensures all (refuted _ c.subset.ensures c.if-not-subset.true));
-    }
-
-pub returns-then-is_empty : goal.returns-then-is_empty
-returns-then-is_empty c =
-    record {
-      most = omega (arith, c.byte-n.ensures, c.loop-i.invariant.0);
-      low = c.loop-i.invariant.1;
-      some = c.loop-i.invariant.2;
-      stops = λ h. inr (subst Empty c.set-s.ensures (decided _ c.is_empty.ensures c.if-is_empty.true));
+      stops = λ h.
+          elim c.then-not-subset.branch [
+            | then-not-subset-via-then-not-subset w ↦ inl (some-high image _ _ _ c.set-s.ensures all c.subset.ensures w.if-not-subset.true)
+            | then-not-subset-via-else-not-subset+then-is_empty w ↦ inr (subst Empty c.set-s.ensures (decided _ w.is_empty.ensures w.if-is_empty.true))
+          ];
     }
 
 pub loop-i-preserved : goal.loop-i-preserved
@@ -39,7 +35,7 @@ loop-i-preserved c =
     let image = c.args.image.now in
     let all = has_all image _ _ c.byte-n.ensures c.requires.stages c.below-all.ensures in (
       omega arith,
-      below_more _ _ c.loop-i.invariant.1 (none-high image _ _ _ c.set-s.ensures all (decided _ c.subset.ensures c.if-not-subset.false)),
+      below_more _ _ c.loop-i.invariant.1 (none-high image _ _ _ c.set-s.ensures all c.subset.ensures c.if-not-subset.false),
       below_more _ _ c.loop-i.invariant.2 (subst (λ (s : ℕ). Empty s → ⊥) c.set-s.ensures (refuted _ c.is_empty.ensures c.if-is_empty.false)),
     )
 

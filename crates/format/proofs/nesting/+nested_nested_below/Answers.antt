@@ -2,15 +2,18 @@
 -- measure is twice the entry's number, and one more where the entry itself is looked at.
 -- Assumes nothing.
 use mathlib.Core.Path.{refl}
+use mathlib.Core.Logic.{inl, inr}
 use native.Mathlib.Omega.{arith}
 use Rattle.format.proofs.TreeLaws.{row, nested-row, nested-lower, nested-past}
 use Rattle.format.proofs.nesting.+nested_nested_below.Goals as goal
 
 pub nested-returns-in-Constant : goal.nested-returns-in-Constant
-nested-returns-in-Constant t c = nested-row (row c.entry-r.ensures c.kind_of.ensures c.sort_of-sort.ensures c.in-Constant.is) (λ image. refl) (omega arith)
-
-pub nested-returns-in-Atom : goal.nested-returns-in-Atom
-nested-returns-in-Atom t c = nested-row (row c.entry-r.ensures c.kind_of.ensures c.sort_of-sort.ensures c.in-Atom.is) (λ image. refl) (omega arith)
+nested-returns-in-Constant t c =
+    elim c.in-Constant.is [
+      | inl e ↦ nested-row (row c.entry-r.ensures c.kind_of.ensures c.sort_of-sort.ensures e) (λ image. refl) (omega arith)
+      | inr (inl e) ↦ nested-row (row c.entry-r.ensures c.kind_of.ensures c.sort_of-sort.ensures e) (λ image. refl) (omega arith)
+      | inr (inr e) ↦ nested-row (row c.entry-r.ensures c.kind_of.ensures c.sort_of-sort.ensures e) (λ image. refl) (omega arith)
+    ]
 
 pub nested-returns-in-Junction : goal.nested-returns-in-Junction
 nested-returns-in-Junction t c =
@@ -29,9 +32,6 @@ nested-returns-in-Binary t c =
     nested-row (row c.entry-r.ensures c.kind_of.ensures c.sort_of-sort.ensures c.in-Binary.is)
     (λ image. omega (arith, c.nested_below-in-Binary.ensures.is image, c.nested_below-in-Binary-2.ensures.is image))
     (omega arith)
-
-pub nested-returns-in-NoSort : goal.nested-returns-in-NoSort
-nested-returns-in-NoSort t c = nested-row (row c.entry-r.ensures c.kind_of.ensures c.sort_of-sort.ensures c.in-NoSort.is) (λ image. refl) (omega arith)
 
 pub nested_below-returns-then-o-e : goal.nested_below-returns-then-o-e
 nested_below-returns-then-o-e t c = nested-lower c.if-o-e.true c.nested.ensures

@@ -1,22 +1,18 @@
--- `format::nesting::nested_too_deep` meets its contract: the loop has found no entry of the first e that is operand of none and nests too deep.
+-- `format::nesting::nested_too_deep` meets its contract: no entry of the table is operand of none and nests too deep.
 -- Assumes nothing.
 use native.Mathlib.Omega.{arith}
-use borrow.Author.Count.{below_more, below_none}
 use borrow.Author.Rules.{rules}
-use Rattle.model.specs.Decides.{decided, refuted}
+use borrow.Author.Tests.{tests}
+use Rattle.format.specs.Reading.{DeepRoot}
+use Rattle.format.proofs.RangeLaws.{any-range}
 use Rattle.format.proofs.RootLaws.{none_deep}
 use Rattle.format.proofs.nesting.nested_too_deep.Goals as goal
 
-pub loop-e-init : goal.loop-e-init
-loop-e-init c = (search rules, below_none _)
-
-pub returns-then-deep_root : goal.returns-then-deep_root
-returns-then-deep_root c =
-    record { entry = c.loop-e.e; below = omega (arith, c.byte-m.ensures); deep = (decided _ c.deep_root.ensures c.if-deep_root.true).deep }
-
-pub loop-e-preserved : goal.loop-e-preserved
-loop-e-preserved c = (omega arith, below_more _ _ c.loop-e.invariant.1 (refuted _ c.deep_root.ensures c.if-deep_root.false))
-
 pub returns : goal.returns
 returns c =
-    none_deep c.args.image.now c.args.table.now c.args.seen.now (c.requires) (λ k h. c.loop-e.invariant.1 k (omega (arith, c.byte-m.ensures)))
+    let image = c.args.image.now in
+    let table = c.args.table.now in
+    any-range _ _ _ (DeepRoot image table c.args.seen.now) (λ e. DeepRoot image table c.args.seen.now e → ⊥) c.any.ensures.ran
+    (λ e q k. search (rules, tests)) (λ e q k. search (rules, tests))
+    (λ e from to root. record { entry = e; below = omega (arith, c.byte-m.ensures); deep = root.deep })
+    (λ none. none_deep image table c.args.seen.now c.requires (λ e h. none e (omega arith) (omega (arith, c.byte-m.ensures))))

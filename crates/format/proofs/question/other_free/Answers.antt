@@ -1,26 +1,17 @@
--- `format::question::other_free` meets its contract: the loop has found none of the variables 1 to v - 1 free.
+-- `format::question::other_free` meets its contract: each of the variables 1 to 3 is looked for.
 -- Assumes nothing.
+use Prim.Native.Nat.{ℕ}
 use native.Mathlib.Omega.{arith}
-use borrow.Author.Count.{below_more}
-use Rattle.model.specs.Decides.{decided, refuted}
 use borrow.Author.Rules.{rules}
+use borrow.Author.Tests.{tests}
+use Rattle.sets.specs.Member.{Has}
+use Rattle.sets.specs.Number.{number}
+use Rattle.format.proofs.RangeLaws.{any-range}
 use Rattle.format.proofs.question.other_free.Goals as goal
 
-pub loop-v-init : goal.loop-v-init
-loop-v-init c = (search rules, search rules, λ k h g. absurd (omega arith))
-
-pub returns-then-has : goal.returns-then-has
-returns-then-has c =
-    let is_free = (c.free-free.ensures c.loop-v.v (omega arith)).0 (decided _ c.has.ensures c.if-has.true) in
-    record { variable = c.loop-v.v; from = c.loop-v.invariant.0; to = omega arith; free = is_free }
-
-pub loop-v-preserved : goal.loop-v-preserved
-loop-v-preserved c =
-    let free = c.free-free in (
-      omega arith,
-      omega arith,
-      below_more _ _ c.loop-v.invariant.2 (λ from f. refuted _ c.has.ensures c.if-has.false ((free.ensures c.loop-v.v (omega arith)).1 f)),
-    )
-
 pub returns : goal.returns
-returns c = λ o. c.loop-v.invariant.2 o.variable (omega (arith, o.to)) o.from o.free
+returns c =
+    let Named : ℕ → Type 0 = Has (number c.free-free.result) in
+    any-range _ _ _ Named (λ v. Named v → ⊥) c.any.ensures.ran (λ v q k. search (rules, tests)) (λ v q k. search (rules, tests))
+    (λ v from to h. record { variable = v; from = from; to = omega arith; free = (c.free-free.ensures v (omega arith)).0 h })
+    (λ none o. none o.variable o.from (omega (arith, o.to)) ((c.free-free.ensures o.variable (omega (arith, o.to))).1 o.free))

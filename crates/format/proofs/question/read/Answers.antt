@@ -1,18 +1,71 @@
--- `format::question::read` meets its contract: the refusal of image and table, or what is read with their shape.
+-- `format::question::read` meets its contract: at each `return` the tests before it say that no earlier condition holds.
 -- Assumes nothing.
-use mathlib.Core.Path.{subst}
+use mathlib.Core.Path.{refl}
+use mathlib.Core.Logic.{inl, inr}
+use native.Mathlib.Omega.{arith}
+use Rattle.std.proofs.lemmas.Result.{err_from_is_err_and}
+use Rattle.model.specs.Decides.{decided, refuted}
 use Rattle.format.specs.Question.{setup_conditions, goal_conditions}
-use Rattle.format.specs.Answers.{TableAnswer}
-use Rattle.format.specs.declared.table.Answer.{Answer}
-use Rattle.format.proofs.RefusalLaws.{given-first}
+use Rattle.format.specs.declared.Refusal.TheVariants as R
+use Rattle.format.proofs.RefusalLaws.{given-first, given-later, clear_both}
+use Rattle.format.proofs.ReadingLaws.{shape-entries, shape-stages, goal-byte, start-byte}
 use Rattle.format.proofs.question.read.Goals as goal
 
-pub read_with-requires : goal.read_with-requires
-read_with-requires c =
-    subst (λ (a : Answer). TableAnswer c.args.image.now c.args.table.now a) c.in-Table.is c.read.ensures
+pub returns-in_err-shape : goal.returns-in_err-shape
+returns-in_err-shape c =
+    let image = c.args.image.now in
+    let table = c.args.table.now in
+    let p = err_from_is_err_and c.from_residual.result c.from_residual.ensures.1 in
+    rw (p.1, p.2) (given-first (setup_conditions image table) (goal_conditions image table c.args.goal c.args.start) _ c.in_err-shape.ensures)
 
-pub returns-in-Refused : goal.returns-in-Refused
-returns-in-Refused c =
-    given-first (setup_conditions c.args.image.now c.args.table.now)
-    (goal_conditions c.args.image.now c.args.table.now c.args.goal c.args.start) _
-    (subst (λ (a : Answer). TableAnswer c.args.image.now c.args.table.now a) c.in-Refused.is c.read.ensures)
+pub returns-then-shape-goal : goal.returns-then-shape-goal
+returns-then-shape-goal c =
+    let image = c.args.image.now in
+    let table = c.args.table.now in
+    given-later (setup_conditions image table) (goal_conditions image table c.args.goal c.args.start) R.NoSuchGoal c.in_ok-shape.ensures.clear
+    (inl (refl, omega (arith, c.if-shape-goal.true, shape-entries c.in_ok-shape.ensures)))
+
+pub returns-then-inner-start : goal.returns-then-inner-start
+returns-then-inner-start c =
+    let image = c.args.image.now in
+    let table = c.args.table.now in
+    given-later (setup_conditions image table) (goal_conditions image table c.args.goal c.args.start) R.NoSuchStart c.in_ok-shape.ensures.clear
+    (inr (
+      λ h. omega (arith, h, c.if-shape-goal.false, shape-entries c.in_ok-shape.ensures),
+      inl (refl, omega (arith, c.if-inner-start.true, shape-stages c.in_ok-shape.ensures)),
+    ))
+
+pub overflow_cast-g : goal.overflow_cast-g
+overflow_cast-g c = omega (arith, goal-byte c.in_ok-shape.ensures c.if-shape-goal.false)
+
+pub returns-then-other_free : goal.returns-then-other_free
+returns-then-other_free c =
+    let image = c.args.image.now in
+    let table = c.args.table.now in
+    given-later (setup_conditions image table) (goal_conditions image table c.args.goal c.args.start) R.FreeVariable c.in_ok-shape.ensures.clear
+    (inr (
+      λ h. omega (arith, h, c.if-shape-goal.false, shape-entries c.in_ok-shape.ensures),
+      inr (
+        λ h. omega (arith, h, c.if-inner-start.false, shape-stages c.in_ok-shape.ensures),
+        inl (refl, decided _ c.other_free.ensures c.if-other_free.true),
+      ),
+    ))
+
+pub overflow_cast-result : goal.overflow_cast-result
+overflow_cast-result c = omega (arith, start-byte c.in_ok-shape.ensures c.if-inner-start.false)
+
+pub returns : goal.returns
+returns c =
+    let image = c.args.image.now in
+    let table = c.args.table.now in
+    record {
+      clear =
+          clear_both (setup_conditions image table) (goal_conditions image table c.args.goal c.args.start) c.in_ok-shape.ensures.clear (
+            λ h. omega (arith, h, c.if-shape-goal.false, shape-entries c.in_ok-shape.ensures),
+            (
+              λ h. omega (arith, h, c.if-inner-start.false, shape-stages c.in_ok-shape.ensures),
+              (refuted _ c.other_free.ensures c.if-other_free.false, tt),
+            ),
+          );
+      is = λ i. record { shape = c.in_ok-shape.ensures.is i; goal = c.args.goal; start = c.args.start };
+    }

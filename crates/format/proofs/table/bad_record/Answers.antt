@@ -1,24 +1,16 @@
--- `format::table::bad_record` meets its contract: the loop has found the first e records to keep their rules.
+-- `format::table::bad_record` meets its contract: `any` of the records breaks its rules.
 -- Assumes nothing.
+use Prim.Native.Nat.{ℕ}
 use native.Mathlib.Omega.{arith}
-use borrow.Author.Count.{below_more, below_none}
-use Rattle.model.specs.Decides.{decided, refuted}
-use Rattle.format.proofs.RecordLaws.{ruled-at}
 use borrow.Author.Rules.{rules}
+use borrow.Author.Tests.{tests}
+use Rattle.format.specs.Table.{Ruled, record_at}
+use Rattle.format.proofs.RangeLaws.{any-range}
 use Rattle.format.proofs.table.bad_record.Goals as goal
 
-pub loop-e-init : goal.loop-e-init
-loop-e-init c = (search rules, below_none _)
-
-pub returns-then-not-ruled : goal.returns-then-not-ruled
-returns-then-not-ruled c =
-    let found = ruled-at c.args.image.now c.args.table.now c.loop-e.e c.entry.result c.ruled.result c.entry.ensures c.ruled.ensures in
-    record { entry = c.loop-e.e; below = omega (arith, c.byte-m.ensures); broken = refuted _ found c.if-not-ruled.true }
-
-pub loop-e-preserved : goal.loop-e-preserved
-loop-e-preserved c =
-    let found = ruled-at c.args.image.now c.args.table.now c.loop-e.e c.entry.result c.ruled.result c.entry.ensures c.ruled.ensures in
-    (omega arith, below_more _ _ c.loop-e.invariant.1 (decided _ found c.if-not-ruled.false))
-
 pub returns : goal.returns
-returns c = λ bad. bad.broken (c.loop-e.invariant.1 bad.entry (omega (arith, c.byte-m.ensures, bad.below)))
+returns c =
+    let Keeps : ℕ → Type 0 = λ e. Ruled c.args.image.now e (record_at c.args.table.now e) in
+    any-range _ _ _ (λ e. Keeps e → ⊥) Keeps c.any.ensures.ran (λ x q k. search (rules, tests)) (λ x q k. search (rules, tests))
+    (λ e low high broken. record { entry = e; below = omega (arith, c.byte-m.ensures); broken = broken })
+    (λ all bad. bad.broken (all bad.entry (omega arith) (omega (arith, c.byte-m.ensures, bad.below))))

@@ -5,4 +5,4 @@ pub returns-in-Written : goal.returns-in-Written
 returns-in-Written c = rw c.in-Written.is
 
 pub returns-in-Refused : goal.returns-in-Refused
-returns-in-Refused c = rw c.in-Refused.is c.number.ensures
+returns-in-Refused c = rw c.in-Refused.is c.from.ensures
