@@ -11,6 +11,7 @@ use mathlib.Core.List.{List, ◌++◌}
 use mathlib.Core.Logic.{⊎_elim}
 use lib.Dec.{lit≤}
 use lib.ListN.{length, drop, replicate, length-replicate}
+use Rattle.std.specs.Prelude.{Option, Some, None}
 use Rattle.sets.proofs.LawsMember.{side?}
 use Rattle.format.specs.Example.{example_image, example_table}
 use Rattle.format.proofs.Example as format
@@ -88,7 +89,7 @@ input-bytes = bytes-by example_input tt
 pub zeros : ℕ → List ℕ
 zeros n = replicate n 0
 
-pub replied : (after printed : List ℕ) × (r : ℕ) × Replied example_input (zeros certificate_buffer) after (zeros longest) printed r
+pub replied : (after printed : List ℕ) × (r : Option ℕ) × Replied example_input (zeros certificate_buffer) after (zeros longest) printed r
 replied =
     let before = zeros certificate_buffer in
     let out = zeros longest in
@@ -96,13 +97,13 @@ replied =
     let p = printed-there a.1 out in
     (a.0, p.0, p.1, record { line = a.1; answers = a.2; prints = p.2 })
   where
-    printed-there : (line out : List ℕ) → (printed : List ℕ) × (r : ℕ) × Printed line out printed r
+    printed-there : (line out : List ℕ) → (printed : List ℕ) × (r : Option ℕ) × Printed line out printed r
     printed-there line out =
         ⊎_elim
-        (λ h. (out, 0, record { whole = λ g. absurd (omega (arith, g, h)); nothing = λ g. (refl, refl) }))
+        (λ h. (out, None, record { whole = λ g. absurd (omega (arith, g, h)); nothing = λ g. (refl, refl) }))
         (λ h. (
           line ++ drop (length line) out,
-          length line,
+          Some (length line),
           record { whole = λ g. (refl, refl); nothing = λ g. absurd (omega (arith, g, h)) },
         ))
         (side? (length out) (length line))

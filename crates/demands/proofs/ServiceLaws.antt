@@ -21,6 +21,7 @@ use lib.Bits.{bit_or}
 use lib.Count.{ones}
 use lib.Dec.{T, eqb, ltb, lit<}
 use lib.ListN.{length, drop}
+use Rattle.std.specs.Prelude.{Some}
 use Rattle.logic.specs.Test.{eu}
 use Rattle.logic.proofs.Booleans.{T_and, differ}
 use Rattle.logic.proofs.Duality.{holds-or-dual}
@@ -286,7 +287,7 @@ module _ (input before : List ℕ) where
   lined-once v w p q =
       let line = line-once before before v.buffer w.buffer v.answer w.answer refl p q in
       let out = v.answer in
-      let whole : Printed v.answer out (v.answer ++ drop (length v.answer) out) (length v.answer) =
+      let whole : Printed v.answer out (v.answer ++ drop (length v.answer) out) (Some (length v.answer)) =
       record { whole = λ h. (refl, refl); nothing = λ h. absurd (omega (arith, h)) } in
       let one = reply-once before v.buffer w.buffer out _ _ _ _ (record { line = v.answer; answers = p; prints = whole })
       (record { line = v.answer; answers = subst (Answers input before w.buffer) (sym line) q; prints = whole }) in

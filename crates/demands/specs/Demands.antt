@@ -19,7 +19,7 @@
 --
 -- The services are functions that are proved to meet these contracts on every input, so that what is said of every answer that meets a contract is said of
 -- what they answer.
-use Rattle.std.specs.Prelude.{ℕ, ◌≤◌, ◌≡◌, List, ◌++◌, ◌↔◌, ◌⊎◌, length, drop}
+use Rattle.std.specs.Prelude.{ℕ, ◌≤◌, ◌≡◌, List, ◌++◌, ◌↔◌, ◌⊎◌, length, drop, Option, Some}
 use Rattle.logic.specs.Meaning.{Holds}
 use Rattle.format.specs.Refusal.{number, Given, Clear}
 use Rattle.format.specs.Image.{graph_of}
@@ -60,8 +60,8 @@ pub record Demand1 (image table bytes : List ℕ) (goal start : ℕ) (buffer inp
   pub report : Serves (ReportAnswer image) Report.Refused (Given (report_conditions image))
   pub program : Bytes input → Serves (λ (w : Left (List ℕ)). Answers input buffer w.buffer w.answer)
       (λ k. record { answer = refusal_line k; buffer = buffer }) (ProgramGives input buffer)
-  pub prints : (after out printed : List ℕ) (r : ℕ) → Replied input buffer after out printed r → length buffer ≤ certificate_buffer → longest ≤ length out
-      → (line : List ℕ) × Answers input buffer after line × (r ≡ length line) × Front line out printed
+  pub prints : (after out printed : List ℕ) (r : Option ℕ) → Replied input buffer after out printed r → length buffer ≤ certificate_buffer
+      → longest ≤ length out → (line : List ℕ) × Answers input buffer after line × (r ≡ Some (length line)) × Front line out printed
 
 module _ (image table : List ℕ) (goal start : ℕ) where
   -- A question that is not refused: the stages and formulas are readable, the goal and start allowed.

@@ -11,7 +11,7 @@
 -- Assumes nothing.
 use Prim.Native.Nat.{ℕ, ◌+◌, ◌≤◌, ◌<◌}
 use native.Mathlib.Omega.{arith}
-use mathlib.Core.Path.{◌≡◌, refl}
+use mathlib.Core.Path.{◌≡◌, refl, ap}
 use mathlib.Core.List.{List, [], ◌∷◌, ◌++◌, map}
 use lib.Dec.{lit≤}
 use lib.ListN.{length, replicate, length-replicate}
@@ -20,7 +20,7 @@ use Rattle.format.specs.declared.Refusal.TheVariants as R
 use Rattle.line.specs.Framing.{framed, Framed, OfShape}
 use Rattle.line.specs.Text.{ascii, decimal, decimal_within, hex_digit, hex}
 use Rattle.line.specs.Line.{line_of, refusal_line}
-use Rattle.line.proofs.FramingLaws.{framed-length, sizes-differ}
+use Rattle.line.proofs.FramingLaws.{framed-length, too-long}
 
 -- A certificate of the example: the header with a side, goal and start, and the steps.
 abbrev certificate : ℕ → ℕ → ℕ → List ℕ → List ℕ
@@ -92,13 +92,13 @@ past-limit = (long-length 16379, long-refused 16379 (lit≤ tt))
 
 -- No bytes at all; the smallest input, one byte less and one more.
 pub nothing-there : OfShape [] → ⊥
-nothing-there = sizes-differ [] 0 0 refl refl (λ e. omega arith)
+nothing-there o = cc (o.parts.is)
 
 pub one-short : OfShape (0 ∷ 0 ∷ 0 ∷ 0 ∷ 2 ∷ []) → ⊥
-one-short = sizes-differ (0 ∷ 0 ∷ 0 ∷ 0 ∷ 2 ∷ []) 0 0 refl refl (λ e. omega arith)
+one-short o = omega (arith, ap length o.parts.is, framed-length o.image o.table o.goal o.start)
 
 pub smallest : Framed [] [] 2 0 (0 ∷ 0 ∷ 0 ∷ 0 ∷ 2 ∷ 0 ∷ [])
 smallest = record { is = refl; most = lit≤ tt }
 
 pub one_more : OfShape (0 ∷ 0 ∷ 0 ∷ 0 ∷ 2 ∷ 0 ∷ 0 ∷ []) → ⊥
-one_more = sizes-differ (0 ∷ 0 ∷ 0 ∷ 0 ∷ 2 ∷ 0 ∷ 0 ∷ []) 0 0 refl refl (λ e. omega arith)
+one_more = too-long [] [] 2 0 0 []

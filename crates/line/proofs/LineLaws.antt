@@ -1,12 +1,11 @@
 -- What the writers of text and of the line leave in the buffer, piece by piece.
 --
---     word_room, hex-room, word_more, hex-more, word-whole, hex-whole
---                                      the loops that copy a word and write hex
+--     put_none, put-join, put-room     no byte; a piece and then the next; what is left of the room
+--     hex-room, hex-more               room for the next byte in hex, and the two digits of it
 --     decimal_digit, decimal-digits    a number below ten, and any other
 --     length-small, length_more, digits-small, digits_more
---                                      how many digits each has
---     side-zero, side-other, side-yes, side-no, side-short
---                                      the side words
+--                                      how many digits a number has
+--     side-short                       the side words
 --     line-length, refusal-length, line-end
 --                                      how long the two lines are, and that there is room to the end
 --     printed-nothing, printed-whole, certificate-line, refusal-line
@@ -20,58 +19,49 @@ use native.Mathlib.Omega.{arith}
 use mathlib.Core.Path.{◌≡◌, refl, sym, ap, ap₂, ◌∙◌, subst}
 use mathlib.Core.List.{List, [], ◌∷◌, ◌++◌}
 use lib.ListN.{length, take, get_or, length-append, length-take}
-use lib.Seq.{take_all, take-suc}
+use Rattle.std.specs.Prelude.{Some, None}
 use Rattle.format.specs.Refusal.{number}
 use Rattle.format.specs.declared.Refusal.{Refusal}
 use Rattle.line.specs.Front.{Written}
+use Rattle.line.specs.Put.{Put}
 use Rattle.line.specs.Text.{digit, decimal, hex_digit, hex, DigitCount}
-use Rattle.line.specs.Line.{space, line_feed, yes_word, no_word, refused_word, side_word, line_of, refusal_line, Printed}
-use Rattle.line.proofs.FrontLaws.{written-join, written-length, written-room, written-front}
+use Rattle.line.specs.Line.{space, line_feed, refused_word, side_word, line_of, refusal_line, Printed}
+use Rattle.line.specs.declared.text.Text.{Text}
+use Rattle.line.proofs.FrontLaws.{written_none, written-join, written-length, written-room, written-front}
 use Rattle.line.proofs.TextLaws.{decimal-small, decimal-more, decimal-short, hex-length, hex-one-more}
 
--- ---- turns of the loops
+-- ---- pieces
 
--- There is room for the next byte of a word, and for the two digits of the next byte in hex.
-pub word_room : (word : List ℕ) (i p q : ℕ) (a b : List ℕ) → i < length word → p + length word ≤ length a → Written p (take i word) a b q
-    → q < length b
-word_room word i p q a b h room w =
-    omega (arith, written-room 1 w (omega (arith, length-take i word)))
+pub put_none : (t : Text) → t.at ≤ length t.out.now → Put [] t t
+put_none t h = record { lent = refl; written = written_none t.at t.out.now h }
 
-pub hex-room : (bytes : List ℕ) (i p q : ℕ) (a b : List ℕ) → i < length bytes → p + 2 * length bytes ≤ length a
-    → Written p (hex (take i bytes)) a b q → q + 2 ≤ length b
-hex-room bytes i p q a b h room w = written-room 2 w (omega (arith, hex-length (take i bytes), length-take i bytes))
+pub put-join : {xs ys : List ℕ} {a b c : Text} → Put xs a b → Put ys b c → Put (xs ++ ys) a c
+put-join p q = record { lent = q.lent ∙ p.lent; written = written-join p.written q.written }
 
--- The next byte of a word.
-pub word_more : (word : List ℕ) (i p q r : ℕ) (a b c : List ℕ) → i < length word → Written p (take i word) a b q
-    → Written q (get_or word i 0 ∷ []) b c r → Written p (take (i + 1) word) a c r
-word_more word i p q r a b c h w v =
-    subst (λ (l : List ℕ). Written p l a c r) (sym (take-suc word i 0 h) ∙ ap (λ (k : ℕ). take k word) (sym (add-one i))) (written-join w v)
+pub put-room : {xs : List ℕ} {a b : Text} (n : ℕ) → Put xs a b → a.at + (length xs + n) ≤ length a.out.now → b.at + n ≤ length b.out.now
+put-room n p h = written-room n p.written h
 
 -- The two digits of the next byte in hex.
-pub hex-more : (bytes : List ℕ) (i x y p q r s : ℕ) (a b c d : List ℕ) → i < length bytes → x ≡ hex_digit (get_or bytes i 0 / 16)
-    → y ≡ hex_digit (get_or bytes i 0 % 16) → Written p (hex (take i bytes)) a b q → Written q (x ∷ []) b c r → Written r (y ∷ []) c d s
-    → Written p (hex (take (i + 1) bytes)) a d s
-hex-more bytes i x y p q r s a b c d h high low w v u =
-    subst (λ (l : List ℕ). Written p l a d s)
+pub hex-room : {a b : Text} (bytes : List ℕ) (i : ℕ) → i < length bytes → a.at + 2 * length bytes ≤ length a.out.now
+    → Put (hex (take i bytes)) a b → b.at + 2 ≤ length b.out.now
+hex-room bytes i h room p = put-room 2 p (omega (arith, hex-length (take i bytes), length-take i bytes))
+
+pub hex-more : {a b c d : Text} {x y : ℕ} (bytes : List ℕ) (i : ℕ) → i < length bytes → x ≡ hex_digit (get_or bytes i 0 / 16)
+    → y ≡ hex_digit (get_or bytes i 0 % 16) → Put (hex (take i bytes)) a b → Put (x ∷ []) b c → Put (y ∷ []) c d → Put (hex (take (i + 1) bytes)) a d
+hex-more {a} {b} {c} {d} bytes i h high low p q r =
+    subst (λ (l : List ℕ). Put l a d)
     (ap₂ (λ (m n : ℕ). hex (take i bytes) ++ (m ∷ n ∷ [])) high low ∙ hex-one-more bytes i h ∙ ap (λ (k : ℕ). hex (take k bytes)) (sym (add-one i)))
-    (written-join w (written-join v u))
-
--- At the end of the loop all of it stands there.
-pub word-whole : (word : List ℕ) (i p r : ℕ) (a b : List ℕ) → length word ≤ i → Written p (take i word) a b r → Written p word a b r
-word-whole word i p r a b h w = subst (λ (l : List ℕ). Written p l a b r) (take_all i word h) w
-
-pub hex-whole : (bytes : List ℕ) (i p r : ℕ) (a b : List ℕ) → length bytes ≤ i → Written p (hex (take i bytes)) a b r
-    → Written p (hex bytes) a b r
-hex-whole bytes i p r a b h w = subst (λ (l : List ℕ). Written p (hex l) a b r) (take_all i bytes h) w
+    (put-join p (put-join q r))
 
 -- ---- decimal
 
-pub decimal_digit : (n p r : ℕ) (a b : List ℕ) → n < 10 → Written p (digit n ∷ []) a b r → Written p (decimal n) a b r
-decimal_digit n p r a b h w = subst (λ (l : List ℕ). Written p l a b r) (sym (decimal-small n h)) w
+pub decimal_digit : {a b : Text} (n : ℕ) → n < 10 → Put (digit (n % 10) ∷ []) a b → Put (decimal n) a b
+decimal_digit {a} {b} n h p =
+    let same : n % 10 ≡ n = omega arith in
+    subst (λ (l : List ℕ). Put l a b) (ap (λ (d : ℕ). digit d ∷ []) same ∙ sym (decimal-small n h)) p
 
-pub decimal-digits : (n p q r : ℕ) (a b c : List ℕ) → 10 ≤ n → Written p (decimal (n / 10)) a b q → Written q (digit (n % 10) ∷ []) b c r
-    → Written p (decimal n) a c r
-decimal-digits n p q r a b c h w v = subst (λ (l : List ℕ). Written p l a c r) (sym (decimal-more n h)) (written-join w v)
+pub decimal-digits : {a b c : Text} (n : ℕ) → 10 ≤ n → Put (decimal (n / 10)) a b → Put (digit (n % 10) ∷ []) b c → Put (decimal n) a c
+decimal-digits {a} {b} {c} n h p q = subst (λ (l : List ℕ). Put l a c) (sym (decimal-more n h)) (put-join p q)
 
 -- How many digits each has.
 pub length-small : (n : ℕ) → n < 10 → length (decimal n) ≡ 1
@@ -90,19 +80,6 @@ digits_more n r h fits d = record {
 }
 
 -- ---- the side word
-
-pub side-zero : (side : ℕ) → side ≡ 0 → side_word side ≡ yes_word
-side-zero side e = ap side_word e
-
-pub side-other : (side : ℕ) → (side ≡ 0 → ⊥) → side_word side ≡ no_word
-side-other zero f = absurd (f refl)
-side-other (suc side) f = refl
-
-pub side-yes : (side p r : ℕ) (a b : List ℕ) → side ≡ 0 → Written p yes_word a b r → Written p (side_word side) a b r
-side-yes side p r a b e w = subst (λ (l : List ℕ). Written p l a b r) (sym (side-zero side e)) w
-
-pub side-no : (side p r : ℕ) (a b : List ℕ) → (side ≡ 0 → ⊥) → Written p no_word a b r → Written p (side_word side) a b r
-side-no side p r a b f w = subst (λ (l : List ℕ). Written p l a b r) (sym (side-other side f)) w
 
 pub side-short : (side : ℕ) → length (side_word side) ≤ 3
 side-short zero = omega arith
@@ -126,45 +103,45 @@ pub refusal-length : (k : Refusal) → length (refusal_line k) ≡ length (decim
 refusal-length k = omega (arith, length-append (decimal (number k)) (line_feed ∷ []))
 
 -- Where there is room for the whole line there is room for the line feed at its end.
-pub line-end : {p q r s t : ℕ} {a b c d e f : List ℕ} (side : ℕ) (certificate : List ℕ) → length (line_of side certificate) ≤ length a
-    → Written 0 (side_word side) a b p → Written p (space ∷ []) b c q → Written q (decimal (length certificate)) c d r
-    → Written r (space ∷ []) d e s → Written s (hex certificate) e f t → t < length f
-line-end side certificate h word first count second bytes =
-    let all = written-join word (written-join first (written-join count (written-join second bytes))) in
+pub line-end : {a b c d e f : Text} {word : List ℕ} (side : ℕ) (certificate : List ℕ) → length word ≡ length (side_word side) → a.at ≡ 0
+    → length (line_of side certificate) ≤ length a.out.now → Put word a b → Put (space ∷ []) b c → Put (decimal (length certificate)) c d
+    → Put (space ∷ []) d e → Put (hex certificate) e f → f.at < length f.out.now
+line-end side certificate same front room word first count second bytes =
+    let all = put-join word (put-join first (put-join count (put-join second bytes))) in
     omega (
       arith,
-      bytes.ends,
-      second.ends,
-      count.ends,
-      first.ends,
-      word.ends,
-      written-length all,
+      bytes.written.ends,
+      second.written.ends,
+      count.written.ends,
+      first.written.ends,
+      word.written.ends,
+      written-length all.written,
       line-length side certificate,
       hex-length certificate,
     )
 
 -- A line for which there is no room.
-pub printed-nothing : (line a : List ℕ) → length a < length line → Printed line a a 0
+pub printed-nothing : (line a : List ℕ) → length a < length line → Printed line a a None
 printed-nothing line a h = record { whole = λ l. absurd (omega arith); nothing = λ l. (refl, refl) }
 
 -- A line that was written from the front on.
-pub printed-whole : {r : ℕ} {line a b : List ℕ} → Written 0 line a b r → Printed line a b r
-printed-whole {r} {line} {a} {b} w = record {
-  whole = λ h. (w.ends ∙ zero-add (length line), written-front w);
-  nothing = λ h. absurd (omega (arith, w.room));
-}
+pub printed-whole : {line : List ℕ} {a b : Text} → a.at ≡ 0 → Put line a b → Printed line a.out.now b.out.now (Some b.at)
+printed-whole {line} {a} {b} front p =
+    let w : Written 0 line a.out.now b.out.now b.at = subst (λ (k : ℕ). Written k line a.out.now b.out.now b.at) front p.written in
+    record {
+      whole = λ h. (ap Some (w.ends ∙ zero-add (length line)), written-front w);
+      nothing = λ h. absurd (omega (arith, w.room));
+    }
 
 -- The line of a certificate, and that of a refusal, piece by piece.
-pub certificate-line : {p q r s t u : ℕ} {a b c d e f g : List ℕ} (side : ℕ) (certificate : List ℕ) → Written 0 (side_word side) a b p
-    → Written p (space ∷ []) b c q → Written q (decimal (length certificate)) c d r → Written r (space ∷ []) d e s
-    → Written s (hex certificate) e f t → Written t (line_feed ∷ []) f g u → Printed (line_of side certificate) a g u
-certificate-line side certificate word first count second bytes end =
-    printed-whole
-    (written-join word (written-join first (written-join count (written-join second (written-join bytes end)))))
+pub certificate-line : {a b c d e f g : Text} {word : List ℕ} (side : ℕ) (certificate : List ℕ) → word ≡ side_word side → a.at ≡ 0
+    → Put word a b → Put (space ∷ []) b c → Put (decimal (length certificate)) c d → Put (space ∷ []) d e → Put (hex certificate) e f
+    → Put (line_feed ∷ []) f g → Printed (line_of side certificate) a.out.now g.out.now (Some g.at)
+certificate-line {a} {b} {c} {d} {e} {f} {g} side certificate same front word first count second bytes end =
+    printed-whole front
+    (put-join (subst (λ (l : List ℕ). Put l a b) same word) (put-join first (put-join count (put-join second (put-join bytes end)))))
 
-pub refusal-line : {p q r s : ℕ} {a b c d e : List ℕ} (k : Refusal) (n : ℕ) → n ≡ number k → Written 0 refused_word a b p
-    → Written p (space ∷ []) b c q → Written q (decimal n) c d r → Written r (line_feed ∷ []) d e s → Printed (refusal_line k) a e s
-refusal-line {p} {q} {r} {s} {a} {b} {c} {d} {e} k n same word first count end =
-    printed-whole
-    (written-join word
-    (written-join first (written-join (subst (λ (m : ℕ). Written q (decimal m) c d r) same count) end)))
+pub refusal-line : {a b c d : Text} (k : Refusal) (n : ℕ) → n ≡ number k → a.at ≡ 0 → Put (refused_word ++ (space ∷ [])) a b → Put (decimal n) b c
+    → Put (line_feed ∷ []) c d → Printed (refusal_line k) a.out.now d.out.now (Some d.at)
+refusal-line {a} {b} {c} {d} k n same front word count end =
+    printed-whole front (put-join word (put-join (subst (λ (m : ℕ). Put (decimal m) b c) same count) end))

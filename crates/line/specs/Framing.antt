@@ -1,21 +1,22 @@
 -- Document 01, "The example graph": the program's input is a 16-bit length, the image, a 16-bit length, the table, the goal byte, the start
 -- byte, nothing more, at most 16,384 bytes in all; and the condition of refusal 16.
-use Rattle.std.specs.Prelude.{ℕ, ◌+◌, ◌/◌, ◌%◌, ◌≤◌, ◌<◌, ◌≡◌, List, [], ◌∷◌, ◌++◌, length, take, drop}
-use Rattle.format.specs.Bytes.{word_at}
+use Rattle.std.specs.Prelude.{ℕ, ◌/◌, ◌%◌, ◌≤◌, ◌≡◌, List, [], ◌∷◌, ◌++◌, length, Result, Ok, Err}
 use Rattle.format.specs.Refusal.{Condition, Given}
+use Rattle.format.specs.declared.Refusal.{Refusal}
 use Rattle.format.specs.declared.Refusal.TheVariants as R
-use Rattle.line.specs.declared.frame.Span.{Span}
 use Rattle.line.specs.declared.frame.Parts.{Parts}
-use Rattle.line.specs.declared.frame.Frame.{Frame}
-use Rattle.line.specs.declared.frame.Frame.TheVariants as Fr
 
 -- A 16-bit number, big-endian.
 abbrev pub word : ℕ → List ℕ
 word n = n / 256 ∷ n % 256 ∷ []
 
+-- A part after its length, and what follows it.
+abbrev pub counted : List ℕ → List ℕ → List ℕ
+counted part rest = word (length part) ++ (part ++ rest)
+
 -- The parts in their order, each of the two after its length.
 abbrev pub framed : List ℕ → List ℕ → ℕ → ℕ → List ℕ
-framed image table goal start = word (length image) ++ (image ++ (word (length table) ++ (table ++ (goal ∷ start ∷ []))))
+framed image table goal start = counted image (counted table (goal ∷ start ∷ []))
 
 -- How many bytes there may be in all.
 abbrev pub limit : ℕ
@@ -38,23 +39,23 @@ pub record OfShape (input : List ℕ) : Type 0 where
 abbrev pub frame_conditions : List ℕ → List Condition
 frame_conditions input = record { refusal = R.NotOfShape; holds = OfShape input → ⊥ } ∷ []
 
--- The bytes of a span of the input.
-abbrev pub spanned : List ℕ → Span → List ℕ
-spanned input s = take s.size (drop s.from input)
+-- An input was taken apart: these are its parts, and of its limit nothing is said.
+abbrev pub PartsOf : List ℕ → Parts → Type 0
+PartsOf input p = input ≡ framed p.image.now p.table.now p.goal p.start
 
--- An input was taken apart: the spans lie in it, each after its length, and hold the parts.
-pub record PartsOf (input : List ℕ) (p : Parts) : Type 0 where
-  pub parts : Framed (spanned input p.image) (spanned input p.table) p.goal p.start input
-  pub image_from : p.image.from ≡ 2
-  pub image_inside : p.image.from + p.image.size ≤ length input
-  pub table_from : p.table.from ≡ 4 + p.image.size
-  pub table_inside : p.table.from + p.table.size ≤ length input
+-- The answer: the parts of an input of the program's shape, or the refusal that is given.
+abbrev pub FrameAnswer : List ℕ → Result Parts Refusal → Type 0
+FrameAnswer input (Ok p) = Framed p.image.now p.table.now p.goal p.start input
+FrameAnswer input (Err k) = Given (frame_conditions input) k
 
-abbrev pub FrameAnswer : List ℕ → Frame → Type 0
-FrameAnswer input (Fr.Parts p) = PartsOf input p
-FrameAnswer input (Fr.Refused k) = Given (frame_conditions input) k
+-- What an answer shows: the parts, as bytes and numbers, or the refusal.
+abbrev pub shown : Result Parts Refusal → Result (List ℕ × List ℕ × ℕ × ℕ) Refusal
+shown (Ok p) = Ok (p.image.now, p.table.now, p.goal, p.start)
+shown (Err k) = Err k
 
--- What the code gives for a 16-bit number.
-pub record Word (bytes : List ℕ) (at r : ℕ) : Type 0 where
-  pub is : r ≡ word_at bytes at
-  pub small : r < 65536
+-- What the code finds where it finds nothing: no part after its length at the front; no parts of an input.
+abbrev pub NoPart : List ℕ → Type 0
+NoPart bytes = (part rest : List ℕ) → bytes ≡ counted part rest → ⊥
+
+abbrev pub NoParts : List ℕ → Type 0
+NoParts input = (image table : List ℕ) (goal start : ℕ) → input ≡ framed image table goal start → ⊥

@@ -2,4 +2,5 @@
 pub mod Front
 pub mod Framing
 pub mod Text
+pub mod Put
 pub mod Line

@@ -1,5 +1,5 @@
 -- Document 01, "The example graph": the one line that the program prints, ended by a line feed; and what a writer of a line leaves.
-use Rattle.std.specs.Prelude.{ℕ, zero, suc, ◌≤◌, ◌<◌, ◌≡◌, List, [], ◌∷◌, ◌++◌, length}
+use Rattle.std.specs.Prelude.{ℕ, zero, suc, ◌≤◌, ◌<◌, ◌≡◌, List, [], ◌∷◌, ◌++◌, length, Option, Some, None}
 use Rattle.format.specs.Refusal.{number}
 use Rattle.format.specs.declared.Refusal.{Refusal}
 use Rattle.line.specs.Front.{Front}
@@ -43,7 +43,7 @@ abbrev pub longest : ℕ
 longest = 65547
 
 -- What a writer of a line leaves in its buffer and returns: the whole line at the front and its length; where there is no room for the whole,
--- nothing, and 0.
-pub record Printed (line before after : List ℕ) (r : ℕ) : Type 0 where
-  pub whole : length line ≤ length before → (r ≡ length line) × Front line before after
-  pub nothing : length before < length line → (r ≡ 0) × (after ≡ before)
+-- nothing.
+pub record Printed (line before after : List ℕ) (r : Option ℕ) : Type 0 where
+  pub whole : length line ≤ length before → (r ≡ Some (length line)) × Front line before after
+  pub nothing : length before < length line → (r ≡ None) × (after ≡ before)

@@ -28,7 +28,7 @@ use Rattle.writer.specs.Write.{side_for, certificate}
 use Rattle.line.specs.Framing.{framed, OfShape}
 use Rattle.line.specs.Text.{ascii, decimal, decimal_within, hex}
 use Rattle.line.specs.Line.{line_of, refusal_line, certificate_buffer}
-use Rattle.line.proofs.FramingLaws.{sizes-differ}
+use Rattle.line.proofs.FramingLaws.{too-long}
 use Rattle.reply.specs.Reply.{Answers}
 use Rattle.reply.proofs.AnswerLaws.{refusals_in}
 
@@ -145,14 +145,14 @@ marked = each asked (λ c. prints c.goal c.start c.room (given c.goal c.start c.
 pub nothing-there : (before : List ℕ) → Answers [] before before (ascii "refused 16\n")
 unfolding decimal decimal_within
 nothing-there before =
-    inl (record { shapeless = sizes-differ [] 0 0 refl refl (λ e. omega arith); line_is = refl; kept = refl })
+    inl (record { shapeless = λ o. cc (o.parts.is); line_is = refl; kept = refl })
 
 pub one_more : (before : List ℕ) → Answers (framed example_image example_table 2 0 ++ (0 ∷ [])) before before (ascii "refused 16\n")
 unfolding decimal decimal_within
 one_more before =
     inl
     (record {
-      shapeless = sizes-differ (framed example_image example_table 2 0 ++ (0 ∷ [])) 40 36 refl refl (λ e. omega arith);
+      shapeless = too-long example_image example_table 2 0 0 [];
       line_is = refl;
       kept = refl;
     })

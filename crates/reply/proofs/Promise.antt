@@ -4,7 +4,7 @@
 --
 --     line-there, line-once            every input has a line, and one only, whatever stood in the certificate buffer
 --     reply-once                       one result, and one pair of buffers
---     line-fits-always, reply-whole    the program's own sizes: every line has room, so that 0 never comes back
+--     line-fits-always, reply-whole    the program's own sizes: every line has room, so that its length comes back
 --     sixteen-exactly, refused-exactly, certified-exactly
 --                                      when each line is printed
 --     yes-exactly, no-exactly          what `yes` and `no` mean
@@ -17,6 +17,7 @@ use mathlib.Core.Path.{◌≡◌, refl, sym, ap, ap₂, ◌∙◌, subst, subst�
 use mathlib.Core.List.{List, ◌++◌}
 use mathlib.Core.Logic.{◌↔◌, inl, inr, ⊎_elim}
 use lib.ListN.{length, drop}
+use Rattle.std.specs.Prelude.{Option, Some}
 use Rattle.model.specs.Formula.{dual}
 use Rattle.logic.specs.Meaning.{Holds}
 use Rattle.sets.proofs.LawsBytes.{Bytes}
@@ -78,7 +79,7 @@ module _ {input : List ℕ} where
   line-once b c x y l m e p q = (answer-once b c x y l m e p q).0
 
   -- and two results that meet the contract are one, with what both buffers hold.
-  pub reply-once : (before a b out p q : List ℕ) (r s : ℕ) → Replied input before a out p r → Replied input before b out q s
+  pub reply-once : (before a b out p q : List ℕ) (r s : Option ℕ) → Replied input before a out p r → Replied input before b out q s
       → (r ≡ s) × (a ≡ b) × (p ≡ q)
   reply-once before a b out p q r s x y =
       let one = answer-once before before a b x.line y.line refl x.answers y.answers in
@@ -125,12 +126,12 @@ module _ {input before after line : List ℕ} where
       p.clear).0 in
       omega (arith, ap length p.line_is, line-fits (side_of o) (certificate_of o) (omega (arith, room)))
 
--- So the whole line is printed, and 0 never comes back.
-pub reply-whole : {input before after out printed : List ℕ} {r : ℕ} → length before ≤ certificate_buffer → longest ≤ length out
-    → (a : Replied input before after out printed r) → (0 < r) × (r ≡ length a.line) × Front a.line out printed
+-- So the whole line is printed, which is not empty.
+pub reply-whole : {input before after out printed : List ℕ} {r : Option ℕ} → length before ≤ certificate_buffer → longest ≤ length out
+    → (a : Replied input before after out printed r) → (0 < length a.line) × (r ≡ Some (length a.line)) × Front a.line out printed
 reply-whole h room a =
     let whole = a.prints.whole (omega (arith, line-fits-always h a.answers)) in
-    (omega (arith, whole.0, line-not-empty a.answers), whole.0, whole.1)
+    (line-not-empty a.answers, whole.0, whole.1)
 
 -- ---- when each line is printed
 

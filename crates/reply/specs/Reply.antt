@@ -1,6 +1,6 @@
 -- Document 01, "The example graph" and "Refusal numbers": the one line that the program prints for an input, and what its certificate buffer holds
 -- afterwards. 16 comes first; an input that has parts is answered as writing answers them.
-use Rattle.std.specs.Prelude.{ℕ, ◌≡◌, List, ◌∷◌, ◌++◌, ◌⊎◌}
+use Rattle.std.specs.Prelude.{ℕ, ◌≡◌, List, ◌∷◌, ◌++◌, ◌⊎◌, Option}
 use Rattle.format.specs.Refusal.{Condition, Given, Clear}
 use Rattle.format.specs.declared.Refusal.{Refusal}
 use Rattle.format.specs.declared.Refusal.TheVariants as R
@@ -47,7 +47,7 @@ Answers input before after line =
     AnswersSixteen input before after line ⊎ (AnswersRefusal input before after line ⊎ AnswersCertificate input before after line)
 
 -- What comes back and what both buffers hold: that line, printed.
-pub record Replied (input before after out printed : List ℕ) (r : ℕ) : Type 0 where
+pub record Replied (input before after out printed : List ℕ) (r : Option ℕ) : Type 0 where
   pub line : List ℕ
   pub answers : Answers input before after line
   pub prints : Printed line out printed r

@@ -22,30 +22,28 @@ fn answer<R: Read, W: Write>(from: &mut R, to: &mut W) -> io::Result<()>
         (W.contents to.old) (W.contents to.new)) }
 {
     let mut input = [0u8; line::LIMIT + 1];
-    let mut n = 0;
-    let read = read_full(from, &mut input, &mut n);
+    let (n, read) = read_full(from, &mut input);
     let mut certificate = [0u8; line::CERTIFICATE];
     let mut out = [0u8; line::LONGEST];
-    let length = reply::reply(&input[..n], &mut certificate, &mut out);
-    to.write_all(&out[..length])?;
+    if let Some(length) = reply::reply(&input[..n], &mut certificate, &mut out) {
+        to.write_all(&out[..length])?;
+    }
     read
 }
 
-// Reads until the buffer is full or the input ends; or until a read fails, whose error comes back. What was read stands at the buffer's front, and its
-// length in a lent number.
-fn read_full<R: Read>(from: &mut R, buffer: &mut [u8], count: &mut usize) -> io::Result<()>
-    ensures inside { count.new ≤ length buffer.new }
-    ensures bytes { Consumes (R.remaining from.old) (R.remaining from.new) (take count.new buffer.new) }
-    ensures whole { OnOk result (ReadWhole (length buffer.new) (R.remaining from.new) count.new) }
+// Reads until the buffer is full or the input ends, or until a read fails. How much was read, at the buffer's front, comes back with the read's error.
+fn read_full<R: Read>(from: &mut R, buffer: &mut [u8]) -> (usize, io::Result<()>)
+    ensures inside { result.0 ≤ length buffer.new }
+    ensures bytes { Consumes (R.remaining from.old) (R.remaining from.new) (take result.0 buffer.new) }
+    ensures whole { OnOk result.1 (ReadWhole (length buffer.new) (R.remaining from.new) result.0) }
 {
-    *count = 0;
-    while *count < buffer.len() {
-        let at = *count;
-        let n = from.read(&mut buffer[at..])?;
-        if n == 0 {
-            return Ok(());
+    let mut n = 0;
+    while n < buffer.len() {
+        match from.read(&mut buffer[n..]) {
+            Ok(0) => break,
+            Ok(more) => n += more,
+            Err(e) => return (n, Err(e)),
         }
-        *count = at + n;
     }
-    Ok(())
+    (n, Ok(()))
 }

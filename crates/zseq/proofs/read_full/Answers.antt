@@ -21,15 +21,15 @@ slice_range-put_mid a k n xs ys within fits =
     ap (take ((a + n) - a)) (drop_at (take a xs) (ys ++ after) a (length-take-le a xs within)) ∙ ap (λ m. take m (ys ++ after)) same
     ∙ take-append-le n ys after fits
 
-pub loop-count-preserved : goal.loop-count-preserved
-loop-count-preserved g c =
-    let from = c.loop-count.count in
-    let room = length c.loop-count.buffer - from in
-    let within = c.loop-count.invariant.0 in
-    let part = slice_range-put_mid from room c.in_ok-n.n c.loop-count.buffer c.read.new.buf within c.in_ok-n.ensures.bound.0 in
-    let joined = take_split from (from + c.in_ok-n.n) c.loop-count.buffer (put_mid from room c.loop-count.buffer c.read.new.buf) (omega arith)
+pub loop-n-preserved : goal.loop-n-preserved
+loop-n-preserved g c =
+    let from = c.loop-n.n in
+    let room = length c.loop-n.buffer - from in
+    let within = c.loop-n.invariant.0 in
+    let part = slice_range-put_mid from room c.in-Ok.more c.loop-n.buffer c.read.new.buf within c.in-Ok.ensures.bound.0 in
+    let joined = take_split from (from + c.in-Ok.more) c.loop-n.buffer (put_mid from room c.loop-n.buffer c.read.new.buf) (omega arith)
     (take-put_mid_below _ _ _ _ _ (le_refl _) within) in (
       search rules,
-      subst (Consumes _ _) (ap (λ l. take from c.loop-count.buffer ++ l) (sym part) ∙ joined)
-          (Consumes-trans _ _ _ _ _ c.loop-count.invariant.1 c.in_ok-n.ensures.bytes.0),
+      subst (Consumes _ _) (ap (λ l. take from c.loop-n.buffer ++ l) (sym part) ∙ joined)
+          (Consumes-trans _ _ _ _ _ c.loop-n.invariant.1 c.in-Ok.ensures.bytes.0),
     )
