@@ -484,7 +484,7 @@ formula-returns t c =
     record {
       is = λ {image} {table} {side} hand.
           from_start image table c.args.steps.now side _ refl _ (Ok c.args.at) c.fresh_walk.ensures (start_is hand c.start-s.ensures)
-          (c.walk.ensures.is (from-its-start hand (omega (arith, c.if-field-lt4.false)) c.start-s.ensures));
+          (c.walk.ensures.is (from-its-start hand (omega (arith, c.if-entries-e-lt4.false)) c.start-s.ensures));
     }
 
 pub go_on-x_at-bound-requires : goal.go_on-x_at-bound-requires
