@@ -1,7 +1,7 @@
--- `modal::some_next_among` meets its contract: the stages that are asked, for some successor.
-use Rattle.modal.specs.Rounds.{step}
+-- `modal::some_next_among` meets its contract: the walk over the stages asked.
+use Rattle.std.proofs.Common.{rules}
+use Rattle.modal.proofs.LawsNext.{ready-some}
 use Rattle.modal.proofs.some_next_among.Goals as goal
 
 pub returns : goal.returns
-unfolding step
-returns c = c.ready.ensures
+returns c = search (rules, ready-some)
