@@ -8,10 +8,11 @@ ghost use Rattle.sets.specs.Member.{Has};
 ghost use Rattle.sets.specs.Number.{number, width};
 ghost use Rattle.sets.specs.Row.{held};
 ghost use Rattle.hand.specs.Environment.{Bound, env_of};
-ghost use Rattle.hand.specs.Setup.{field_at, most_entries};
+ghost use Rattle.hand.specs.Setup.{entry_at, most_entries};
 ghost use Rattle.checker.specs.Reading.{EachRead, FormulaRead, Handed, Led, OnRead, Past, Started, WalkRead, Walking};
 
 use hand::env::Env;
+use hand::setup::Entry;
 use hand::{env, setup};
 use rules::{Head, Rule};
 use sets::Set;
@@ -49,27 +50,27 @@ fn leads(sets: &[Set; setup::SETS], k: usize, c: u8) -> bool
 // The variables with an entry's x, and with its y, at a stage.
 fn x_at(entries: &[Entry; setup::ENTRIES], e: u8, env: Env, t: u8) -> Env
     requires { e < most_entries }
-    ensures { Bound env (field_at entries.now 3 e) t result }
+    ensures { Bound env ((entry_at entries.now e).x) t result }
 {
-    env.bound(setup::field(entries, setup::X, e), t)
+    env.bound(entries[e as usize].x, t)
 }
 
 fn y_at(entries: &[Entry; setup::ENTRIES], e: u8, env: Env, t: u8) -> Env
     requires { e < most_entries }
-    ensures { Bound env (field_at entries.now 4 e) t result }
+    ensures { Bound env ((entry_at entries.now e).y) t result }
 {
-    env.bound(setup::field(entries, setup::Y, e), t)
+    env.bound(entries[e as usize].y, t)
 }
 
 // The stage at which the walk of an entry's formula starts: that of a modality's term; of another formula, 0.
 fn start(entries: &[Entry; setup::ENTRIES], e: u8, env: Env) -> u8
     requires { e < most_entries }
-    ensures { Started (field_at entries.now 0 e) (field_at entries.now 5 e) (env_of env) result }
+    ensures { Started ((entry_at entries.now e).kind) ((entry_at entries.now e).t) (env_of env) result }
 {
-    if setup::field(entries, setup::KIND, e) < 6 {
+    if entries[e as usize].kind < 6 {
         0
     } else {
-        env::stage_of(setup::field(entries, setup::T, e), env)
+        env::stage_of(entries[e as usize].t, env)
     }
 }
 
@@ -87,7 +88,7 @@ pub(crate) fn formula(
     requires { Handed sets.now entries.now e (env_of env) }
     ensures { FormulaRead sets.now entries.now steps.now e (env_of env) at fault.new result }
 {
-    if setup::field(entries, setup::KIND, e) < 4 {
+    if entries[e as usize].kind < 4 {
         return leaf(sets, entries, steps, e, env, at, fault);
     }
     let s = start(entries, e, env);
@@ -111,16 +112,16 @@ fn leaf(
     at: usize,
     fault: &mut usize,
 ) -> usize
-    requires { Handed sets.now entries.now e (env_of env) × (field_at entries.now 0 e < 4) }
+    requires { Handed sets.now entries.now e (env_of env) × ((entry_at entries.now e).kind < 4) }
     ensures { FormulaRead sets.now entries.now steps.now e (env_of env) at fault.new result }
 {
-    let kind = setup::field(entries, setup::KIND, e);
+    let kind = entries[e as usize].kind;
     match rules::read_head(steps, at, kind) {
         Head::Step(_, begun) => {
             if kind == 0 {
                 return begun;
             }
-            if setup::atom(sets, entries, e, env) {
+            if setup::atom(sets, &entries[e as usize], env) {
                 if kind == 2 {
                     begun
                 } else {
@@ -157,27 +158,27 @@ fn walk(
     ensures { WalkRead sets.now entries.now steps.now e (env_of env) (number met) s at fault.new result }
 {
     let k = index(s);
-    match rules::read_head(steps, at, setup::field(entries, setup::KIND, e)) {
+    match rules::read_head(steps, at, entries[e as usize].kind) {
         Head::Step(rule, begun) => {
             let from = match rule {
                 Rule::True => return begun,
                 Rule::Holds => return begun,
                 Rule::HoldsNot => return begun,
                 Rule::And => {
-                    let a = setup::field(entries, setup::A, e);
+                    let a = entries[e as usize].a;
                     let here = formula(sets, entries, steps, a, env, begun, fault);
                     if steps.len() < here {
                         return here;
                     }
-                    let b = setup::field(entries, setup::B, e);
+                    let b = entries[e as usize].b;
                     return formula(sets, entries, steps, b, env, here, fault);
                 }
                 Rule::OrLeft => {
-                    let a = setup::field(entries, setup::A, e);
+                    let a = entries[e as usize].a;
                     return formula(sets, entries, steps, a, env, begun, fault);
                 }
                 Rule::OrRight => {
-                    let b = setup::field(entries, setup::B, e);
+                    let b = entries[e as usize].b;
                     return formula(sets, entries, steps, b, env, begun, fault);
                 }
                 Rule::Ax => return at_each(sets, entries, steps, e, env, s, begun, fault),
@@ -185,7 +186,7 @@ fn walk(
                     if !leads(sets, k, c) {
                         return fails(steps, at, fault);
                     }
-                    let a = setup::field(entries, setup::A, e);
+                    let a = entries[e as usize].a;
                     let bound = x_at(entries, e, env, c);
                     return formula(sets, entries, steps, a, bound, begun, fault);
                 }
@@ -193,7 +194,7 @@ fn walk(
                     if met.has(k) {
                         return fails(steps, at, fault);
                     }
-                    let a = setup::field(entries, setup::A, e);
+                    let a = entries[e as usize].a;
                     let bound = x_at(entries, e, env, s);
                     return formula(sets, entries, steps, a, bound, begun, fault);
                 }
@@ -222,13 +223,13 @@ fn walk(
                     if met.has(k) {
                         return fails(steps, at, fault);
                     }
-                    let a = setup::field(entries, setup::A, e);
+                    let a = entries[e as usize].a;
                     let bound = x_at(entries, e, env, s);
                     let here = formula(sets, entries, steps, a, bound, begun, fault);
                     if steps.len() < here {
                         return here;
                     }
-                    let b = setup::field(entries, setup::B, e);
+                    let b = entries[e as usize].b;
                     let bound = y_at(entries, e, env, s);
                     return formula(sets, entries, steps, b, bound, here, fault);
                 }
@@ -236,7 +237,7 @@ fn walk(
                     if met.has(k) {
                         return fails(steps, at, fault);
                     }
-                    let b = setup::field(entries, setup::B, e);
+                    let b = entries[e as usize].b;
                     let bound = y_at(entries, e, env, s);
                     formula(sets, entries, steps, b, bound, begun, fault)
                 }
@@ -250,7 +251,7 @@ fn walk(
                     if met.has(k) {
                         return fails(steps, at, fault);
                     }
-                    let b = setup::field(entries, setup::B, e);
+                    let b = entries[e as usize].b;
                     let bound = y_at(entries, e, env, s);
                     return formula(sets, entries, steps, b, bound, begun, fault);
                 }
@@ -264,16 +265,15 @@ fn walk(
                     return go_on(sets, entries, steps, e, env, met, s, c, begun, fault);
                 }
             };
-            let mut left = setup::set(sets, k);
+            let grown = met.with(k);
             let mut here = from;
-            while !left.is_empty() {
+            for t in setup::set(sets, k).stages() {
                 if steps.len() < here {
                     return here;
                 }
-                let t = left.lowest() as u8;
-                let grown = met.with(k);
-                here = walk(sets, entries, steps, e, env, grown, t, here, fault);
-                left = left.rest();
+                here = walk(
+                    sets, entries, steps, e, env, grown, t as u8, here, fault,
+                );
             }
             here
         }
@@ -299,7 +299,7 @@ fn go_on(
     requires { Led sets.now entries.now e (env_of env) (number met) s c }
     ensures { OnRead sets.now entries.now steps.now e (env_of env) (number met) s c at fault.new result }
 {
-    let a = setup::field(entries, setup::A, e);
+    let a = entries[e as usize].a;
     let bound = x_at(entries, e, env, s);
     let here = formula(sets, entries, steps, a, bound, at, fault);
     if steps.len() < here {
@@ -330,20 +330,17 @@ fn at_each(
     at: usize,
     fault: &mut usize,
 ) -> usize
-    requires { Walking sets.now entries.now e (env_of env) s × ((field_at entries.now 1 e < e) × (at ≤ length steps.now)) }
+    requires { Walking sets.now entries.now e (env_of env) s × (((entry_at entries.now e).a < e) × (at ≤ length steps.now)) }
     ensures { EachRead sets.now entries.now steps.now e (env_of env) s at fault.new result }
 {
-    let mut left = setup::set(sets, s as usize);
     let mut here = at;
-    while !left.is_empty() {
+    for t in setup::set(sets, s as usize).stages() {
         if steps.len() < here {
             return here;
         }
-        let t = left.lowest() as u8;
-        let a = setup::field(entries, setup::A, e);
-        let bound = x_at(entries, e, env, t);
+        let a = entries[e as usize].a;
+        let bound = x_at(entries, e, env, t as u8);
         here = formula(sets, entries, steps, a, bound, here, fault);
-        left = left.rest();
     }
     here
 }

@@ -23,6 +23,7 @@ use lib.Bits.{bit_and}
 use lib.Count.{ones, ones-le}
 use lib.Dec.{T}
 use lib.ListN.{length}
+use Rattle.sets.specs.declared.Set.{Set}
 use Rattle.model.specs.Graph.{Graph, Readable}
 use Rattle.logic.specs.Meaning.{Path, OnSomeUntil}
 use Rattle.logic.specs.Test.{Stages, eu}
@@ -88,7 +89,7 @@ module _ {image : List ℕ} (clear : Clear (report_conditions image)) where
       decoded-row e (omega arith) long d
 
   -- All stages less those at which EU(true, fired) holds are the dead ends.
-  pub listed-dead : {next : List ℕ} {n all fired able dead : ℕ} → Row next n (graph_of image) → all ≡ below n → fired ≡ set_of image (first_set image 0)
+  pub listed-dead : {next : List Set} {n all fired able dead : ℕ} → Row next n (graph_of image) → all ≡ below n → fired ≡ set_of image (first_set image 0)
       → Computes next n (eu_of all fired) able → dead ≡ all - bit_and all able → DeadEndsOf (graph_of image) dead
   listed-dead {next} {n} {all} {fired} {able} {dead} row every is-fired found rest = dead-unless (graph_of image) dead unless
     where

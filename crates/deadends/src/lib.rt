@@ -80,7 +80,7 @@ pub fn zseq_dead_ends(image: &[u8], set: &mut [u8]) -> u64
     match report(image) {
         Report::Refused(k) => answer::code(Report::Refused(k)),
         Report::DeadEnds(dead, count) => {
-            dead.write(set);
+            sets::stored::write(set, dead);
             answer::code(Report::DeadEnds(dead, count))
         }
     }

@@ -19,6 +19,7 @@ use format::record::Kind;
 use format::{byte, record};
 use guide::sides;
 use hand::env::Env;
+use hand::setup::Entry;
 use hand::{env, setup};
 use rules::Rule;
 use sets::Set;
@@ -40,7 +41,7 @@ pub(crate) fn formula(
     requires { Holding image.now table.now next.now entries.now side e env }
     ensures { Wrote write (entry_steps image.now table.now side e (env_of env)) at out.old out.new result }
 {
-    let f = setup::entry_at(entries, e);
+    let f = entries[e as usize];
     match record::kind_of(f.kind) {
         Kind::True => put(out, write, at, code_of(Rule::True)),
         Kind::False => at,
@@ -82,7 +83,7 @@ fn or(
     if out.len() < at {
         return out.len() + 1;
     }
-    let f = setup::entry_at(entries, e);
+    let f = entries[e as usize];
     if sides::holds_on(image, table, next, byte(image, 5) as usize, side, f.a, env) {
         let on = put(out, write, at, code_of(Rule::OrLeft));
         return formula(image, table, next, entries, side, write, f.a, env, out, on);
@@ -111,14 +112,12 @@ fn ax(
     if out.len() < at {
         return out.len() + 1;
     }
-    let f = setup::entry_at(entries, e);
-    let mut there = sets::row::load(next, env::stage_of(f.t, env) as usize);
+    let f = entries[e as usize];
+    let there = sets::row::load(next, env::stage_of(f.t, env) as usize);
     let mut here = put(out, write, at, code_of(Rule::Ax));
-    while !there.is_empty() {
-        let t = there.lowest() as u8;
-        let to = env.bound(f.x, t);
+    for t in there.stages() {
+        let to = env.bound(f.x, t as u8);
         here = formula(image, table, next, entries, side, write, f.a, to, out, here);
-        there = there.rest();
     }
     here
 }
@@ -143,7 +142,7 @@ fn ex(
     if out.len() < at {
         return out.len() + 1;
     }
-    let f = setup::entry_at(entries, e);
+    let f = entries[e as usize];
     let n = byte(image, 5) as usize;
     let s = env::stage_of(f.t, env);
     let c = guide::ex(image, table, next, n, side, f.a, env, f.x, s);
@@ -175,7 +174,7 @@ fn af_from(
     if out.len() < at {
         return out.len() + 1;
     }
-    let f = setup::entry_at(entries, e);
+    let f = entries[e as usize];
     let n = byte(image, 5) as usize;
     let stop = sides::where_on(image, table, next, n, side, f.a, env, f.x);
     let mut lens = [0u64; sets::WIDTH];
@@ -265,15 +264,14 @@ fn af_step(
         × Noted image.now table.now side e (env_of env) lens.new }
 {
     if stop.has(s as usize) {
-        let f = setup::entry_at(entries, e);
+        let f = entries[e as usize];
         let on = put(out, write, at, code_of(Rule::AfNow));
         let to = env.bound(f.x, s);
         return formula(image, table, next, entries, side, write, f.a, to, out, on);
     }
     let mut here = put(out, write, at, code_of(Rule::AfLater));
-    let mut there = sets::row::load(next, s as usize);
-    while !there.is_empty() {
-        let t = there.lowest() as u8;
+    let there = sets::row::load(next, s as usize);
+    for t in there.stages() {
         here = af(
             image,
             table,
@@ -284,13 +282,12 @@ fn af_step(
             e,
             env,
             stop,
-            t,
+            t as u8,
             left - 1,
             lens,
             out,
             here,
         );
-        there = there.rest();
     }
     here
 }
@@ -315,7 +312,7 @@ fn eg(
     if out.len() < at {
         return out.len() + 1;
     }
-    let f = setup::entry_at(entries, e);
+    let f = entries[e as usize];
     let n = byte(image, 5) as usize;
     let mut toward = [0u8; sets::WIDTH];
     guide::eg(image, table, next, n, side, f.a, env, f.x, &mut toward);
@@ -361,7 +358,7 @@ fn ar_from(
     if out.len() < at {
         return out.len() + 1;
     }
-    let f = setup::entry_at(entries, e);
+    let f = entries[e as usize];
     let n = byte(image, 5) as usize;
     let stop = sides::where_on(image, table, next, n, side, f.a, env, f.x);
     ar(
@@ -413,7 +410,7 @@ fn ar(
     if walk.has(s as usize) {
         return put(out, write, at, code_of(Rule::ArMerge));
     }
-    let f = setup::entry_at(entries, e);
+    let f = entries[e as usize];
     if stop.has(s as usize) {
         let on = put(out, write, at, code_of(Rule::ArRelease));
         let to = env.bound(f.x, s);
@@ -425,9 +422,8 @@ fn ar(
     let to = env.bound(f.y, s);
     let mut here = formula(image, table, next, entries, side, write, f.b, to, out, on);
     let longer = walk.with(s as usize);
-    let mut there = sets::row::load(next, s as usize);
-    while !there.is_empty() {
-        let t = there.lowest() as u8;
+    let there = sets::row::load(next, s as usize);
+    for t in there.stages() {
         here = ar(
             image,
             table,
@@ -439,12 +435,11 @@ fn ar(
             env,
             stop,
             longer,
-            t,
+            t as u8,
             left - 1,
             out,
             here,
         );
-        there = there.rest();
     }
     here
 }
@@ -469,7 +464,7 @@ fn eu(
     if out.len() < at {
         return out.len() + 1;
     }
-    let f = setup::entry_at(entries, e);
+    let f = entries[e as usize];
     let n = byte(image, 5) as usize;
     let mut toward = [0u8; sets::WIDTH];
     let now = guide::eu(

@@ -10,11 +10,16 @@ use native.Mathlib.Omega.{arith}
 use lib.Bits.{bit_or}
 use lib.Count.{ones}
 use Rattle.sets.specs.Member.{bit, Has, Empty}
-use Rattle.sets.specs.Number.{single, width}
+use Rattle.sets.specs.Number.{number, single, width}
+use Rattle.sets.specs.declared.Stages.{Stages}
 use Rattle.sets.specs.Walk.{Turn}
 use Rattle.sets.proofs.LawsBit.{bit-zero, bit-or}
 use Rattle.sets.proofs.LawsMember.{same?, bit-single-same, bit-single-other, empty-zero, not-has}
 use Rattle.sets.proofs.LawsLowest.{lowest-lt, lowest-has, rest-lowest, rest-other, rest-small, ones-rest}
+
+-- when a walk begins all of the set is left
+pub walk-begins : {first items : Stages} {s : ℕ} → first ≡ items → number items.left ≡ s → number first.left ≡ s
+walk-begins e f = ap (λ i. number i.left) e ∙ f
 
 some-not-zero : (s : ℕ) → (Empty s → ⊥) → s ≢ 0
 some-not-zero s f e = f ((empty-zero s).1 e)

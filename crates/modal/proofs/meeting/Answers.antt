@@ -4,13 +4,13 @@ use mathlib.Core.Path.{refl, ap, ◌∙◌}
 use Rattle.model.specs.Decides.{decided, refuted}
 use Rattle.sets.specs.Number.{number}
 use Rattle.sets.proofs.LawsFits.{number_lt}
-use Rattle.sets.proofs.LawsWalk.{gather-start}
+use Rattle.sets.proofs.LawsWalk.{walk-begins, gather-start}
 use Rattle.modal.proofs.LawsNext.{walk-take, walk-skip, walk_end}
 use Rattle.modal.proofs.meeting.Goals as goal
 
 pub loop-s-init : goal.loop-s-init
 loop-s-init c =
-    gather-start _ _ _ (number_lt _ _ c.well_formed.1.0) (ap (λ i. number i.left) c.into_iter-s-iterator.ensures.into_iter_gives ∙ c.stages-s-items.ensures) c.empty-found.ensures
+    gather-start _ _ _ (number_lt _ _ c.well_formed.1.0) (walk-begins c.into_iter-s-iterator.ensures.into_iter_gives c.stages-s-items.ensures) c.empty-found.ensures
 
 pub loop-s-preserved-then-not-is_empty : goal.loop-s-preserved-then-not-is_empty
 loop-s-preserved-then-not-is_empty c =

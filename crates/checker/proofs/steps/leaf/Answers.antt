@@ -8,52 +8,52 @@ pub returns-then-kind-eq0 : goal.returns-then-kind-eq0
 returns-then-kind-eq0 c =
     record {
       is = λ {image} {table} {side} hand. leaf-true
-          (arm-of c.args.steps.now hand c.args.at c.field-kind.ensures c.read_head.ensures c.in-Step.is refl) _ (sym c.field-kind.ensures ∙ c.if-kind-eq0.true);
+          (arm-of c.args.steps.now hand c.args.at refl c.read_head.ensures c.in-Step.is refl) _ (sym refl ∙ c.if-kind-eq0.true);
     }
 
 pub returns-then-kind-eq2 : goal.returns-then-kind-eq2
 returns-then-kind-eq2 c =
     record {
       is = λ {image} {table} {side} hand. holds-ends
-          (arm-of c.args.steps.now hand c.args.at c.field-kind.ensures c.read_head.ensures c.in-Step.is refl) c.atom.ensures
-          (sym c.field-kind.ensures ∙ c.if-kind-eq2.true) _ c.if-atom.true;
+          (arm-of c.args.steps.now hand c.args.at refl c.read_head.ensures c.in-Step.is refl) c.atom.ensures
+          (sym refl ∙ c.if-kind-eq2.true) _ c.if-atom.true;
     }
 
 pub returns-else-kind-eq2 : goal.returns-else-kind-eq2
 returns-else-kind-eq2 c =
     record {
       is = λ {image} {table} {side} hand. not-fails
-          (arm-of c.args.steps.now hand c.args.at c.field-kind.ensures c.read_head.ensures c.in-Step.is refl) c.atom.ensures
-          (λ o. c.if-kind-eq0.false (c.field-kind.ensures ∙ o))
-          (λ o. c.if-kind-eq2.false (c.field-kind.ensures ∙ o)) c.requires.1 c.if-atom.true c.fails.ensures;
+          (arm-of c.args.steps.now hand c.args.at refl c.read_head.ensures c.in-Step.is refl) c.atom.ensures
+          (λ o. c.if-kind-eq0.false (refl ∙ o))
+          (λ o. c.if-kind-eq2.false (refl ∙ o)) c.requires.1 c.if-atom.true c.fails.ensures;
     }
 
 pub returns-then-kind-eq2-2 : goal.returns-then-kind-eq2-2
 returns-then-kind-eq2-2 c =
     record {
       is = λ {image} {table} {side} hand. holds-fails
-          (arm-of c.args.steps.now hand c.args.at c.field-kind.ensures c.read_head.ensures c.in-Step.is refl) c.atom.ensures
-          (sym c.field-kind.ensures ∙ c.if-kind-eq2-2.true) c.if-atom.false c.fails-then-kind-eq2-2.ensures;
+          (arm-of c.args.steps.now hand c.args.at refl c.read_head.ensures c.in-Step.is refl) c.atom.ensures
+          (sym refl ∙ c.if-kind-eq2-2.true) c.if-atom.false c.fails-then-kind-eq2-2.ensures;
     }
 
 pub returns-else-kind-eq2-2 : goal.returns-else-kind-eq2-2
 returns-else-kind-eq2-2 c =
     record {
       is = λ {image} {table} {side} hand. not-ends
-          (arm-of c.args.steps.now hand c.args.at c.field-kind.ensures c.read_head.ensures c.in-Step.is refl) c.atom.ensures
-          (λ o. c.if-kind-eq0.false (c.field-kind.ensures ∙ o)) (λ o. c.if-kind-eq2-2.false (c.field-kind.ensures ∙ o)) c.requires.1 _ c.if-atom.false;
+          (arm-of c.args.steps.now hand c.args.at refl c.read_head.ensures c.in-Step.is refl) c.atom.ensures
+          (λ o. c.if-kind-eq0.false (refl ∙ o)) (λ o. c.if-kind-eq2-2.false (refl ∙ o)) c.requires.1 _ c.if-atom.false;
     }
 
 pub returns-in-Missing : goal.returns-in-Missing
 returns-in-Missing c =
     record {
       is = λ {image} {table} {side} hand. whole image table c.args.steps.now side _ _ _
-          (head-missing c.args.steps.now hand c.args.at c.field-kind.ensures c.read_head.ensures 0 _ _ c.in-Missing.is refl);
+          (head-missing c.args.steps.now hand c.args.at refl c.read_head.ensures 0 _ _ c.in-Missing.is refl);
     }
 
 pub returns-in-Wrong : goal.returns-in-Wrong
 returns-in-Wrong c =
     record {
       is = λ {image} {table} {side} hand. whole image table c.args.steps.now side _ _ _
-          (head-wrong c.args.steps.now hand c.args.at c.field-kind.ensures c.read_head.ensures 0 _ c.in-Wrong.is c.wrong.ensures);
+          (head-wrong c.args.steps.now hand c.args.at refl c.read_head.ensures 0 _ c.in-Wrong.is c.wrong.ensures);
     }

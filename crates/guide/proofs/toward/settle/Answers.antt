@@ -4,13 +4,14 @@ use mathlib.Core.Path.{ap, ◌∙◌}
 use native.Mathlib.Omega.{arith}
 use Rattle.sets.specs.Number.{number}
 use Rattle.sets.proofs.LawsFits.{number_lt}
+use Rattle.sets.proofs.LawsWalk.{walk-begins}
 use Rattle.guide.proofs.TowardLaws.{settle-start, settle-stage, settle-turn, settle-end}
 use Rattle.guide.proofs.toward.settle.Goals as goal
 
 pub loop-s-init : goal.loop-s-init
 loop-s-init c =
     settle-start _ _ _ _ (number_lt _ _ c.well_formed.1.0) c.requires.1
-    (ap (λ i. number i.left) c.into_iter-s-iterator.ensures.into_iter_gives ∙ c.stages-s-items.ensures)
+    (walk-begins c.into_iter-s-iterator.ensures.into_iter_gives c.stages-s-items.ensures)
 
 pub bounds-toward-s : goal.bounds-toward-s
 bounds-toward-s c =
