@@ -1,6 +1,6 @@
--- `pen::bytes::header` meets its contract: eight bytes, one after the other.
+-- `pen::run::Run::header` meets its contract: eight bytes, one after the other.
 use Rattle.pen.proofs.WroteLaws.{wrote-both}
-use Rattle.pen.proofs.bytes.header.Goals as goal
+use Rattle.pen.proofs.run.Run.header.Goals as goal
 
 pub returns : goal.returns
 returns c =
