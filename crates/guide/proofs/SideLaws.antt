@@ -1,14 +1,17 @@
 -- An entry's formula on a side: on side 0 it is the formula itself, on any other its dual, whose test is the negated test.
 --
---     truth-zero, truth-dual    one truth value
+--     truth-side                one truth value
 --     where-zero, where-dual    the stages at which it holds
 --
 -- Assumes nothing.
 use Prim.Native.Nat.{ℕ, zero, suc, ◌-◌, ◌≤◌}
+use native.Mathlib.Omega.{arith}
 use mathlib.Core.Path.{◌≡◌, refl, sym, ap, ◌∙◌, subst}
-use mathlib.Core.Bool.{Bool, not}
+use mathlib.Core.Bool.{Bool, true, false, not, beq}
 use mathlib.Core.List.{List}
 use lib.Bits.{bit_and}
+use lib.Dec.{eqb}
+use borrow.Author.Tests.{ne_eqb}
 use Rattle.model.specs.Formula.{bind}
 use Rattle.logic.proofs.Duality.{test-dual}
 use Rattle.sets.specs.Number.{width}
@@ -23,12 +26,18 @@ use Rattle.guide.specs.Sides.{truth_on, held_on}
 
 module _ (image table : List ℕ) (e : ℕ) (env : Env) where
   -- Whether it holds.
-  pub truth-zero : (side : ℕ) (b : Bool) → side ≡ 0 → b ≡ truth_of image table e env → b ≡ truth_on image table side e env
-  truth-zero side b z h = subst (λ (k : ℕ). b ≡ truth_on image table k e env) (sym z) h
-
-  pub truth-dual : (side : ℕ) (b : Bool) → (side ≡ 0 → ⊥) → b ≡ truth_of image table e env → not b ≡ truth_on image table side e env
-  truth-dual zero b f h = absurd (f refl)
-  truth-dual (suc k) b f h = ap not h ∙ sym (test-dual (graph_of image) (tree_of image table e) (env_of env))
+  pub truth-side : (side : ℕ) (b : Bool) → b ≡ truth_of image table e env → beq b (eqb side 0) ≡ truth_on image table side e env
+  truth-side zero b h = as_is b ∙ h
+    where
+      as_is : (b : Bool) → beq b true ≡ b
+      as_is true = refl
+      as_is false = refl
+  truth-side (suc k) b h =
+      ap (beq b) (ne_eqb (suc k) 0 (λ e. omega (arith, e))) ∙ turned b ∙ ap not h ∙ sym (test-dual (graph_of image) (tree_of image table e) (env_of env))
+    where
+      turned : (b : Bool) → beq b false ≡ not b
+      turned true = refl
+      turned false = refl
 
   -- Where it holds, with variable x at the stage.
   pub where-zero : (side n x r : ℕ) → side ≡ 0 → Collects n (held_at image table e env x) r → Collects n (held_on image table side e env x) r

@@ -7,8 +7,8 @@
 // The cost with n stages: the stages at which the operands hold, each worked out once by the verdict, and then at most n rounds, each of which asks no
 // stage that was led in a round before.
 //
-// All require what a question that is not refused has (`Ready`), as the verdict's `where_holds` does, and a row with room for a stage for each stage,
-// which for EU must lead nowhere yet.
+// All require what a question that is not refused has (`Ready`), as the verdict's `where_holds` does, and a row with room for a stage for each stage of
+// the setup, which for EU must lead nowhere yet.
 #![tactic(auto)]
 
 pub mod sides;
@@ -25,72 +25,39 @@ ghost use Rattle.guide.specs.Toward.{Filled, Cleared, Nearest};
 
 use hand::env::Env;
 use sets::Set;
+use sides::Operand;
+use verdict::setup::Setup;
 
-// EX: the lowest successor of s at which a holds on a side, with variable x there; 0 where there is none.
-pub fn ex(
-    image: &[u8],
-    table: &[u8],
-    next: &[Set],
-    n: usize,
-    side: u8,
-    a: u8,
-    env: Env,
-    x: u8,
-    s: u8,
-) -> u8
-    requires { Ready image.now table.now next.now n a env × (x < 4) × (s < n) }
-    ensures { result ≡ lowest_next (graph_of image.now) (held_on image.now table.now side a env x) s }
+// EX: the lowest successor of s at which a holds on a side, with its variable there; 0 where there is none.
+pub fn ex(setup: &Setup<'_>, side: u8, a: Operand, env: Env, s: u8) -> u8
+    requires { Ready setup.now.table.now setup.now.stages a.entry env × (s < setup.now.stages) }
+    ensures { result ≡ lowest_next (graph_of setup.now.image.now)
+        (held_on setup.now.image.now setup.now.table.now side a.entry env a.variable) s }
 {
-    toward::lowest_next(
-        next,
-        n,
-        s as usize,
-        sides::where_on(image, table, next, n, side, a, env, x),
-    )
+    toward::lowest_next(setup, s as usize, sides::where_on(setup, side, a, env))
 }
 
-// EG: every stage below n is led to its lowest successor at which EG of a holds on a side; 0 where there is none. From n on the row is kept.
-pub fn eg(
-    image: &[u8],
-    table: &[u8],
-    next: &[Set],
-    n: usize,
-    side: u8,
-    a: u8,
-    env: Env,
-    x: u8,
-    toward: &mut [u8],
-)
-    requires { Ready image.now table.now next.now n a env × (x < 4) × (n ≤ length toward.old) }
-    ensures { Filled n (lowest_next (graph_of image.now) (eg (graph_of image.now)
-        (held_on image.now table.now side a env x))) toward.old toward.new }
+// EG: every stage is led to its lowest successor at which EG of a holds on a side; 0 where there is none. Past the stages the row is kept.
+pub fn eg(setup: &Setup<'_>, side: u8, a: Operand, env: Env, toward: &mut [u8])
+    requires { Ready setup.now.table.now setup.now.stages a.entry env × (setup.now.stages ≤ length toward.old) }
+    ensures { Filled setup.now.stages (lowest_next (graph_of setup.now.image.now) (eg (graph_of setup.now.image.now)
+        (held_on setup.now.image.now setup.now.table.now side a.entry env a.variable))) toward.old toward.new }
 {
-    let held = sides::where_on(image, table, next, n, side, a, env, x);
-    toward::fill(next, n, modal::eg(next, n, held), toward);
+    let held = sides::where_on(setup, side, a, env);
+    toward::fill(setup, modal::eg(setup.next, setup.stages, held), toward);
 }
 
-// EU: the stages at which b holds on a side, with y there, which are the nows; and every stage below n is led to the successor fewest steps from a now
-// along stages with a, the lowest of equals; 0 where there is none. From n on the row is kept.
-pub fn eu(
-    image: &[u8],
-    table: &[u8],
-    next: &[Set],
-    n: usize,
-    side: u8,
-    a: u8,
-    x: u8,
-    b: u8,
-    y: u8,
-    env: Env,
-    toward: &mut [u8],
-) -> Set
-    requires { Ready image.now table.now next.now n a env × (x < 4) × Ready image.now table.now next.now n b env × (y < 4)
-        × (n ≤ length toward.old) × Cleared n toward.old }
-    ensures { Nearest (graph_of image.now) n (held_on image.now table.now side a env x)
-        (held_on image.now table.now side b env y) (number result) toward.old toward.new }
+// EU: the stages at which b holds on a side, with its variable there, which are the nows; and every stage is led to the successor fewest steps from a now
+// along stages with a, the lowest of equals; 0 where there is none. Past the stages the row is kept.
+pub fn eu(setup: &Setup<'_>, side: u8, a: Operand, b: Operand, env: Env, toward: &mut [u8]) -> Set
+    requires { Ready setup.now.table.now setup.now.stages a.entry env × Ready setup.now.table.now setup.now.stages b.entry env
+        × (setup.now.stages ≤ length toward.old) × Cleared setup.now.stages toward.old }
+    ensures { Nearest (graph_of setup.now.image.now) setup.now.stages
+        (held_on setup.now.image.now setup.now.table.now side a.entry env a.variable)
+        (held_on setup.now.image.now setup.now.table.now side b.entry env b.variable) (number result) toward.old toward.new }
 {
-    let along = sides::where_on(image, table, next, n, side, a, env, x);
-    let now = sides::where_on(image, table, next, n, side, b, env, y);
-    toward::nearest(next, n, along, now, toward);
+    let along = sides::where_on(setup, side, a, env);
+    let now = sides::where_on(setup, side, b, env);
+    toward::nearest(setup, along, now, toward);
     now
 }

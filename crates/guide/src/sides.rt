@@ -6,43 +6,33 @@ ghost use Rattle.guide.specs.Sides.{truth_on, held_on};
 
 use hand::env::Env;
 use sets::Set;
-use verdict::{evaluation, truth};
+use verdict::setup::Setup;
 
-// Whether an entry's formula holds on a side: one truth value.
-pub fn holds_on(
-    image: &[u8],
-    table: &[u8],
-    next: &[Set],
-    n: usize,
-    side: u8,
-    e: u8,
-    env: Env,
-) -> bool
-    requires { Ready image.now table.now next.now n e env }
-    ensures { result ≡ truth_on image.now table.now side e env }
-{
-    let holds = truth::holds(image, table, next, n, e, env);
-    if side == 0 { holds } else { !holds }
+// An operand of a modality: its entry, and which of the four variables the modality binds in it.
+#[derive(Clone, Copy)]
+pub struct Operand {
+    pub entry: u8,
+    pub variable: u8,
+    pub ghost one_of_four: { variable < 4 },
 }
 
-// The stages below n at which an entry's formula holds on a side with variable x there.
-pub fn where_on(
-    image: &[u8],
-    table: &[u8],
-    next: &[Set],
-    n: usize,
-    side: u8,
-    e: u8,
-    env: Env,
-    x: u8,
-) -> Set
-    requires { Ready image.now table.now next.now n e env × (x < 4) }
-    ensures { Collects n (held_on image.now table.now side e env x) (number result) }
+// Whether an entry's formula holds on a side: one truth value.
+pub fn holds_on(setup: &Setup<'_>, side: u8, e: u8, env: Env) -> bool
+    requires { Ready setup.now.table.now setup.now.stages e env }
+    ensures { result ≡ truth_on setup.now.image.now setup.now.table.now side e env }
 {
-    let held = evaluation::where_holds(image, table, next, n, e, env, x);
+    setup.holds(e, env) == (side == 0)
+}
+
+// The stages at which an operand holds on a side with its variable there.
+pub fn where_on(setup: &Setup<'_>, side: u8, a: Operand, env: Env) -> Set
+    requires { Ready setup.now.table.now setup.now.stages a.entry env }
+    ensures { Collects setup.now.stages (held_on setup.now.image.now setup.now.table.now side a.entry env a.variable) (number result) }
+{
+    let held = setup.where_holds(a.entry, env, a.variable);
     if side == 0 {
         held
     } else {
-        Set::below(n).minus(held)
+        Set::below(setup.stages).minus(held)
     }
 }

@@ -3,8 +3,7 @@
 --
 --     start_is, start-below               where a walk starts
 --     ready_of, same-env, under           what an operand asks: of the verdict, of its own writer, and where its variable stands at a stage
---     code_wrote, plain-wrote, operand-wrote
---                                         a rule's code, and an operand's steps
+--     plain-wrote, operand-wrote          an operand's steps
 --     stop-has, stop-lacks, walk-has, walk-lacks, walk-on, walk_none
 --                                         sets as the code tests them
 --     next-all                            the successors of a stage
@@ -14,13 +13,12 @@ use Prim.Native.Nat.{ℕ, suc, ◌≤◌, ◌<◌}
 use native.Mathlib.Omega.{arith}
 use mathlib.Core.Path.{◌≡◌, sym, ap, subst, ◌∙◌, fun_ext}
 use mathlib.Core.Bool.{Bool, true, false, ◌||◌}
-use mathlib.Core.List.{List, [], ◌∷◌, ◌++◌, append-nil, append_assoc}
+use mathlib.Core.List.{List, [], ◌++◌, append-nil, append_assoc}
 use mathlib.Core.Logic.{inl, inr, ⊎_elim, ◌≢◌}
 use lib.Bits.{bit_or}
 use lib.Dec.{T, eqb}
 use lib.ListN.{length}
 use borrow.Author.Tests.{eq-eqb, ne_eqb}
-use Rattle.sets.specs.declared.Set.{Set}
 use Rattle.model.specs.Decides.{Decides}
 use Rattle.model.specs.Formula.{Env, bind, value}
 use Rattle.logic.specs.Rules.{empty, also, On}
@@ -34,8 +32,6 @@ use Rattle.sets.proofs.LawsMember.{same?, has?, has-with, has-test}
 use Rattle.modal.specs.Row.{member}
 use Rattle.format.specs.Image.{stages_of, graph_of}
 use Rattle.format.specs.Table.{IsTerm, a_stage, a_variable, record_at, term_of, tree_of}
-use Rattle.rules.specs.Table.{row}
-use Rattle.rules.specs.declared.Rule.{Rule}
 use Rattle.hand.specs.Environment.{env_of, Bound}
 use Rattle.hand.specs.Side.{sided}
 use Rattle.hand.specs.declared.env.Env.{Env as Slots}
@@ -46,7 +42,9 @@ use Rattle.verdict.specs.Evaluation.{Collects, Ready}
 use Rattle.checker.specs.Reading.{walk_of}
 use Rattle.guide.specs.Sides.{truth_on}
 use Rattle.pen.specs.Wrote.{Wrote}
-use Rattle.pen.specs.Steps.{entry_steps, bound_entry, start_of, Setup, Holding, NextOf}
+use Rattle.pen.specs.Steps.{entry_steps, bound_entry, start_of, Holding, NextOf}
+use Rattle.pen.specs.declared.run.Run.{Run}
+use Rattle.pen.proofs.RunLaws.{run-readable, run-row}
 use Rattle.pen.proofs.WroteLaws.{wrote_none, wrote-both, wrote-same}
 use Rattle.pen.proofs.KindLaws.{Fields}
 
@@ -57,62 +55,65 @@ term-at : {n t : ℕ} {c : Env} → n ≤ 64 → Stand n c → IsTerm n t → va
 term-at {n} {t} {c} w d (a_stage h) = subst (λ (k : ℕ). k < n) (stage-value c t (omega arith)) h
 term-at {n} {t} {c} w d (a_variable h l) = subst (λ (k : ℕ). k < n) (variable-value c t h) (d _)
 
-module _ {image table : List ℕ} {next : List Set} {entries : List Entry} {side e : ℕ} {env : Slots} (h : Holding image table next entries side e env) where
-  -- A walk starts at its term's stage,
-  pub start_is : {p : Entry} {s : ℕ} → Fields p side (record_at table e) → s ≡ value (env_of env) (term_of p.t) → s ≡ start_of image table side e (env_of env)
-  start_is f s-is = s-is ∙ ap (λ (t : ℕ). value (env_of env) (term_of t)) f.t
+module _ (run : Run) where
+  abbrev image : List ℕ
+  image = run.setup.image.now
 
-  -- which is one of the graph's.
-  pub start-below : IsTerm (stages_of image) (record_at table e).t → start_of image table side e (env_of env) < stages_of image
-  start-below is-term = term-at h.setup.row.room h.stand is-term
+  abbrev table : List ℕ
+  table = run.setup.table.now
 
-  -- ---- operands, by the number o' that is read of the entry
+  abbrev side : ℕ
+  side = run.side
 
-  module _ {o o' : ℕ} (o_is : o' ≡ o) (lower : o < e) where
-    -- What the verdict asks,
-    pub ready_of : {n : ℕ} → n ≡ stages_of image → Ready image table next n o' env
-    ready_of n-is = rw n-is (record {
-      row = h.setup.row;
-      ruled = h.setup.ruled;
-      entry = omega (arith, o_is, lower, h.entry);
-      stand = h.stand;
-    })
+  module _ {e : ℕ} {env : Slots} (h : Holding image table side e env) where
+    -- A walk starts at its term's stage,
+    pub start_is : {p : Entry} {s : ℕ} → Fields p side (record_at table e) → s ≡ value (env_of env) (term_of p.t) → s ≡ start_of image table side e (env_of env)
+    start_is f s-is = s-is ∙ ap (λ (t : ℕ). value (env_of env) (term_of t)) f.t
 
-    -- and the operand's own writer, where it holds,
-    pub same-env : T (truth_on image table side o env) → Holding image table next entries side o' env
-    same-env t = rw o_is (record { setup = h.setup; entry = omega (arith, lower, h.entry); stand = h.stand; holds = t })
+    -- which is one of the graph's.
+    pub start-below : IsTerm (stages_of image) (record_at table e).t → start_of image table side e (env_of env) < stages_of image
+    start-below is-term = term-at (run-row run).room h.stand is-term
 
-    -- also with its variable at a stage.
-    pub under : {v v' t : ℕ} {here : Slots} → v' ≡ v → v < 4 → t < stages_of image → Bound env v' t here
-        → T ((bound_entry image table side o v (env_of env)).holds t) → Holding image table next entries side o' here
-    under {v} {v'} {t} {here} v-is small below b u =
-        let is : env_of here ≡ bind (env_of env) v t = b.here (omega (arith, v-is)) ∙ ap (λ (z : ℕ). bind (env_of env) z t) v-is in
-        rw o_is (record {
-          setup = h.setup;
-          entry = omega (arith, lower, h.entry);
-          stand = subst (Stand (stages_of image)) (sym is) (bind-stands h.stand v below);
-          holds = subst (λ (c : Env). T (test (graph_of image) (sided side (tree_of image table o)) c)) (sym is) u;
-        })
+    -- ---- operands, by the number o' that is read of the entry
+
+    module _ {o o' : ℕ} (o_is : o' ≡ o) (lower : o < e) where
+      -- What the verdict asks,
+      pub ready_of : Ready table run.setup.stages o' env
+      ready_of = record {
+        entry = omega (arith, o_is, lower, h.entry);
+        stand = subst (λ (k : ℕ). Stand k (env_of env)) run.setup.row.stages h.stand;
+      }
+
+      -- and the operand's own writer, where it holds,
+      pub same-env : T (truth_on image table side o env) → Holding image table side o' env
+      same-env t = rw o_is (record { entry = omega (arith, lower, h.entry); stand = h.stand; holds = t })
+
+      -- also with its variable at a stage.
+      pub under : {v v' t : ℕ} {here : Slots} → v' ≡ v → v < 4 → t < stages_of image → Bound env v' t here
+          → T ((bound_entry image table side o v (env_of env)).holds t) → Holding image table side o' here
+      under {v} {v'} {t} {here} v-is small below b u =
+          let is : env_of here ≡ bind (env_of env) v t = b.here (omega (arith, v-is)) ∙ ap (λ (z : ℕ). bind (env_of env) z t) v-is in
+          rw o_is (record {
+            entry = omega (arith, lower, h.entry);
+            stand = subst (Stand (stages_of image)) (sym is) (bind-stands h.stand v below);
+            holds = subst (λ (c : Env). T (test (graph_of image) (sided side (tree_of image table o)) c)) (sym is) u;
+          })
 
 -- ---- what was written
 
 module _ {w : Bool} {p q : ℕ} {l k : List ℕ} where
-  -- A rule's code.
-  pub code_wrote : {c : ℕ} (r : Rule) → c ≡ (row r).code → Wrote w (c ∷ []) p l k q → Wrote w ((row r).code ∷ []) p l k q
-  code_wrote r e g = wrote-same (ap (λ (c : ℕ). c ∷ []) e) g
-
-  module _ (image table : List ℕ) (side : ℕ) {o o' : ℕ} (o_is : o' ≡ o) where
+  module _ (run : Run) {o o' : ℕ} (o_is : o' ≡ o) where
     -- An operand,
-    pub plain-wrote : (c : Env) → Wrote w (entry_steps image table side o' c) p l k q → Wrote w (entry_steps image table side o c) p l k q
-    plain-wrote c g = wrote-same (ap (λ (i : ℕ). entry_steps image table side i c) o_is) g
+    pub plain-wrote : (c : Env) → Wrote w (entry_steps run.setup.image.now run.setup.table.now run.side o' c) p l k q → Wrote w (entry_steps run.setup.image.now run.setup.table.now run.side o c) p l k q
+    plain-wrote c g = wrote-same (ap (λ (i : ℕ). entry_steps run.setup.image.now run.setup.table.now run.side i c) o_is) g
 
     -- also with its variable at a stage.
     pub operand-wrote : {v v' t : ℕ} {env here : Slots} → v' ≡ v → v < 4 → Bound env v' t here
-        → Wrote w (entry_steps image table side o' (env_of here)) p l k q → Wrote w ((bound_entry image table side o v (env_of env)).steps t) p l k q
+        → Wrote w (entry_steps run.setup.image.now run.setup.table.now run.side o' (env_of here)) p l k q → Wrote w ((bound_entry run.setup.image.now run.setup.table.now run.side o v (env_of env)).steps t) p l k q
     operand-wrote {v} {v'} {t} {env} {here} v-is small b g =
         wrote-same
-        (ap (λ (i : ℕ). entry_steps image table side i (env_of here)) o_is
-        ∙ ap (entry_steps image table side o) (b.here (omega (arith, v-is)) ∙ ap (λ (z : ℕ). bind (env_of env) z t) v-is)) g
+        (ap (λ (i : ℕ). entry_steps run.setup.image.now run.setup.table.now run.side i (env_of here)) o_is
+        ∙ ap (entry_steps run.setup.image.now run.setup.table.now run.side o) (b.here (omega (arith, v-is)) ∙ ap (λ (z : ℕ). bind (env_of env) z t) v-is)) g
 
 -- ---- sets, as the code tests them
 
@@ -157,12 +158,12 @@ pub walk_none : {set : ℕ} → set ≡ 0 → walk_of set ≡ empty
 walk_none {set} e = fun_ext (λ t. ne_eqb (bit set t) 1 (λ h. omega (arith, ap (λ (z : ℕ). bit z t) e, bit-zero t)))
 
 -- The set of a stage in the row is its successors, all of which are below n.
-pub next-all : {image table : List ℕ} {next : List Set} {entries : List Entry} {side s there : ℕ} → Setup image table next entries side → s < stages_of image → there ≡ held next s
-    → NextOf next (stages_of image) s there
-next-all {next = next} {s = s} {there = there} u h e = record {
+pub next-all : (run : Run) {s there : ℕ} → s < stages_of run.setup.image.now → there ≡ held run.setup.next.now s
+    → NextOf run.setup.next.now (stages_of run.setup.image.now) s there
+next-all run {s} {there} h e = record {
   each = λ t. (
     λ g. let i = subst (λ (z : ℕ). Has z t) e g in
-        (i, (u.readable.inside s t (subst T ((u.sets s h).each t) ((has-test (held next s) t).1 i))).1),
+        (i, ((run-readable run).inside s t (subst T ((run.sets s h).each t) ((has-test (held run.setup.next.now s) t).1 i))).1),
     λ g. subst (λ (z : ℕ). Has z t) (sym e) g.0,
   );
 }

@@ -1,13 +1,13 @@
 -- From the test of a goal to the verdict.
 --
---     question-ready         a question that is not refused has all that an evaluation goes by
+--     asked-ruled, question-ready  a question that is not refused has all that an evaluation goes by
 --     question-row           the row that is decoded for it holds its graph
 --     question-own           a question is read with its own goal and start
 --     goal-test              the test of the goal where variable 0 stands at the start
 --     yes-answer, no_answer  what the test says of the goal and of its dual
 --
 -- Assumes nothing.
-use Prim.Native.Nat.{ℕ, ◌*◌, ◌≤◌, ◌<◌}
+use Prim.Native.Nat.{ℕ, ◌≤◌, ◌<◌}
 use native.Mathlib.Omega.{arith}
 use mathlib.Core.Path.{◌≡◌, sym, ap, ◌∙◌, subst, subst₂}
 use mathlib.Core.Bool.{Bool, true, false}
@@ -25,11 +25,11 @@ use Rattle.sets.specs.Number.{width}
 use Rattle.modal.specs.Row.{Row}
 use Rattle.format.specs.Refusal.{Clear}
 use Rattle.format.specs.Image.{stages_of, graph_of}
-use Rattle.format.specs.Table.{tree_of}
+use Rattle.format.specs.Table.{BadRecord, tree_of}
 use Rattle.format.specs.Question.{question_conditions}
 use Rattle.format.specs.Answers.{QuestionRead}
 use Rattle.format.specs.declared.question.Question.{Question}
-use Rattle.format.proofs.ReadableLaws.{of-setup, of_image, sizes, readable, ruled, tree-below, goal-below, start-below}
+use Rattle.format.proofs.ReadableLaws.{of-setup, of_image, of-table, sizes, readable, tree-below, goal-below, start-below}
 use Rattle.verdict.specs.Evaluation.{Ready, truth_of}
 use Rattle.verdict.specs.Verdict.{Answered, goal_test}
 use Rattle.hand.specs.Environment.{started}
@@ -61,11 +61,13 @@ module _ {image table : List ℕ} {goal start : ℕ} (clear : Clear (question_co
   pub asked-stands : Stand (stages_of image) (started start)
   asked-stands = started-stands (start-below image table goal start clear)
 
-  -- All that an evaluation goes by, with a row that holds the graph.
-  pub question-ready : {next : List Set} {n : ℕ} → Row next n (graph_of image) → Ready image table next n goal (start_env start)
-  question-ready {next} {n} row = record {
-    row = row;
-    ruled = ruled image table (of-setup image table goal start clear);
+  -- No record breaks its rules.
+  pub asked-ruled : BadRecord image table → ⊥
+  asked-ruled = (of-table image table (of-setup image table goal start clear)).1.1.0
+
+  -- All that an evaluation asks, with a row that holds the graph.
+  pub question-ready : {next : List Set} {n : ℕ} → Row next n (graph_of image) → Ready table n goal (start_env start)
+  question-ready {n = n} row = record {
     entry = goal-below image table goal start clear;
     stand = subst (Stand n) (sym (start-env start)) (subst (λ (k : ℕ). Stand k (started start)) row.stages asked-stands);
   }

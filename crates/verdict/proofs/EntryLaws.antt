@@ -1,6 +1,7 @@
 -- An entry of a table that keeps its rules, by the row of its kind: its operands are lower entries, and what its test says.
 --
 --     rule-of, tree-ruled          the rule of an entry's row; its tree, made of its operands' own
+--     Plain                        the row of a formula that is no modality
 --     InnerAs, inner-row           which variables a modality's operands name
 --     modal_as, modal-row           the stages from which a modality holds
 --     test_as, test-row             when a formula holds
@@ -11,8 +12,8 @@ use mathlib.Core.Path.{◌≡◌, refl, sym, ap, ap₂, ◌∙◌, subst}
 use mathlib.Core.Bool.{Bool, true, false}
 use mathlib.Core.List.{List}
 use mathlib.Core.Logic.Iff
-use mathlib.Core.Logic.{◌⊎◌, inr, ⊎_elim, ◌↔◌}
-use Rattle.model.specs.Decides.{Decides}
+use mathlib.Core.Logic.{◌⊎◌, inl, inr, ⊎_elim, ◌↔◌}
+use Rattle.model.specs.Decides.{Decides, decided}
 use Rattle.model.specs.Graph.{Graph}
 use Rattle.model.specs.Formula.{Formula, and, or, AX, EX, AF, EG, AR, EU, Env, bind, value, atom, Under, Free}
 use Rattle.logic.specs.Test.{Stages, test}
@@ -61,6 +62,10 @@ tree-ruled image {table} {e} {r} row rule =
     (subst (Ruled image e) (sym row.entry) rule) (λ i h. tree-at image table e i h)
 
 -- ---- what a row's kinds say of their operands
+
+-- A row whose kinds are no modalities.
+abbrev pub Plain : Sort → Type 0
+Plain s = (s ≡ S.Constant) ⊎ ((s ≡ S.Atom) ⊎ ((s ≡ S.Junction) ⊎ (s ≡ S.NoSort)))
 
 -- When x is free in an operand of a modality: A and B say when it is free in the operands.
 abbrev pub InnerAs : Sort → Record → ℕ → Type 0 → Type 0 → Type 0
@@ -163,6 +168,20 @@ module _ (image : List ℕ) {table : List ℕ} {e : ℕ} {r : Record} {s : Sort}
   inner-decides v true d = (inner-row v).1 d
   inner-decides v false d = λ i. d ((inner-row v).0 i)
 
+  -- Where an entry is no modality there is none.
+  pub inner-none : Plain s → (v : ℕ) → Inner v (tree_of image table e) → ⊥
+  inner-none plain v i = none plain ((inner-row v).0 i)
+    where
+      turned : {q : Sort} → s ≡ q → InnerAs s r v (Free v (tree_of image table r.a)) (Free v (tree_of image table r.b))
+          → InnerAs q r v (Free v (tree_of image table r.a)) (Free v (tree_of image table r.b))
+      turned is = subst (λ (q : Sort). InnerAs q r v (Free v (tree_of image table r.a)) (Free v (tree_of image table r.b))) is
+
+      none : Plain s → InnerAs s r v (Free v (tree_of image table r.a)) (Free v (tree_of image table r.b)) → ⊥
+      none (inl is) = turned is
+      none (inr (inl is)) = turned is
+      none (inr (inr (inl is))) = turned is
+      none (inr (inr (inr is))) = turned is
+
   module _ (G : Graph) (c : Env) where
     -- The stages from which a modality holds.
     pub modal-row : (u : ℕ) → test G (at_stage u (tree_of image table e)) c
@@ -188,7 +207,13 @@ module _ (image : List ℕ) {table : List ℕ} {e : ℕ} {r : Record} {s : Sort}
         ∙ ap (λ (s : Sort). test_as s (is_first kind) (atom G c (atom_of image r)) (test G (tree r.a) c) (test G (tree r.b) c)
         (test G (at_stage (value c (term_of r.t)) (made image tree r)) c)) row.sort)
 
--- Of a modality over two operands the second decides where the first does not name the variable.
+-- Of a modality over two operands the first decides where it names the variable,
+pub first-decides : (image : List ℕ) {table : List ℕ} {e : ℕ} {r : Record} → Row table e r S.Binary → Ruled image e (record_at table e) → (v : ℕ) {b : Bool}
+    → b ≡ true → Decides b (Under v r.x (Free v (tree_of image table r.a))) → Decides b (Inner v (tree_of image table e))
+first-decides image {table} {e} row rule v t d =
+    subst (λ (b : Bool). Decides b (Inner v (tree_of image table e))) (sym t) ((inner-row image row rule v).1 (inl (decided _ d t)))
+
+-- and the second where it does not.
 pub second-decides : (image : List ℕ) {table : List ℕ} {e : ℕ} {r : Record} → Row table e r S.Binary → Ruled image e (record_at table e) → (v : ℕ) (b : Bool)
     → (Under v r.x (Free v (tree_of image table r.a)) → ⊥) → Decides b (Under v r.y (Free v (tree_of image table r.b)))
     → Decides b (Inner v (tree_of image table e))

@@ -3,9 +3,9 @@
 --     ready-lower, ready-bound, ready-rule                    what an evaluation goes by, at a lower entry and under a binding
 --     junction-first, junction-second, unary-operand, binary-first, binary-second
 --                                                             so that it can go on to an operand
---     constant-arm, literal-arm, junction-arm, settled-arm, unary-arm, binary-arm, none-arm
+--     constant-arm, literal-arm, junction-arm, settled-arm, modal-arm, none-arm
 --                                                             the stages at which a formula holds, by the row of its kind
---     unary-here, binary-here                                 a modality holds where it does from the stage of its term
+--     modal-here                                              a modality holds where it does from the stage of its term
 --     unary-set, binary-set, no-set                           the stages from which a modality holds
 --     from-set, each_turn, once-arm                           a modality at its term: by its set, worked out for each stage of x, or once
 --
@@ -15,7 +15,7 @@ use native.Mathlib.Omega.{arith}
 use mathlib.Core.Path.{◌≡◌, sym, ap, ◌∙◌, subst}
 use mathlib.Core.Bool.{Bool, true, false}
 use mathlib.Core.List.{List}
-use Rattle.sets.specs.declared.Set.{Set}
+use mathlib.Core.Logic.{◌⊎◌, inl, inr}
 use Rattle.model.specs.Decides.{Decides}
 use Rattle.model.specs.Formula.{bind, value, atom}
 use Rattle.model.specs.Formula.{Env as Environment}
@@ -29,17 +29,19 @@ use Rattle.format.specs.declared.record.Record.{Record}
 use Rattle.format.specs.declared.record.Kind.{Kind}
 use Rattle.format.specs.declared.record.Sort.{Sort}
 use Rattle.format.specs.declared.record.Sort.TheVariants as S
+use Rattle.format.proofs.ReadingLaws.{all-ruled}
 use Rattle.format.proofs.TreeLaws.{Row}
 use Rattle.hand.specs.Environment.{env_of, Bound}
 use Rattle.verdict.specs.Kinds.{is_first, literal, joined, joined_number, Settled, always, modal, modal_on}
 use Rattle.verdict.specs.Modality.{at_stage, Inner}
 use Rattle.verdict.specs.Evaluation.{Collects, Ready, held_at, held_from, from_term, modal_at, literal_at, term_in}
+use Rattle.verdict.specs.declared.setup.Setup.{Setup}
 use Rattle.hand.specs.declared.env.Env.{Env}
 use Rattle.hand.proofs.EnvironmentLaws.{stage-value, variable-value}
 use Rattle.hand.proofs.HandLaws.{member_is}
 use Rattle.verdict.proofs.CollectLaws.{collects-as, collects-by, collects-none, collects-both, collects-either}
 use Rattle.verdict.proofs.ModalityLaws.{inner-same, modal-agrees}
-use Rattle.verdict.proofs.EntryLaws.{rule-of, modal_as, modal-row, test-row}
+use Rattle.verdict.proofs.EntryLaws.{rule-of, Plain, modal_as, modal-row, test_as, test-row}
 
 -- ---- terms
 
@@ -57,40 +59,47 @@ term-ruled S.Unary image e r some rule = rule.t
 term-ruled S.Binary image e r some rule = rule.t
 term-ruled S.NoSort image e r some rule = absurd rule
 
-module _ {image table : List ℕ} {next : List Set} {n e : ℕ} {env : Env} (ready : Ready image table next n e env) where
+module _ (setup : Setup) {e : ℕ} {env : Env} (ready : Ready setup.table.now setup.stages e env) where
+  abbrev image : List ℕ
+  image = setup.image.now
+
+  abbrev table : List ℕ
+  table = setup.table.now
+
+  abbrev n : ℕ
+  n = setup.stages
+
   -- ---- what an evaluation goes by
 
   -- At a lower entry,
-  pub ready-lower : {o : ℕ} → o < e → Ready image table next n o env
-  ready-lower h = record { row = ready.row; ruled = ready.ruled; entry = omega (arith, ready.entry); stand = ready.stand }
+  pub ready-lower : {o : ℕ} → o < e → Ready table n o env
+  ready-lower h = record { entry = omega (arith, ready.entry); stand = ready.stand }
 
   -- and where a variable stands at another stage.
-  pub ready-bound : {x s : ℕ} {here : Env} → x < 4 → s < n → Bound env x s here → Ready image table next n e here
+  pub ready-bound : {x s : ℕ} {here : Env} → x < 4 → s < n → Bound env x s here → Ready table n e here
   ready-bound {x} h l b = record {
-    row = ready.row;
-    ruled = ready.ruled;
     entry = ready.entry;
     stand = subst (Stand n) (sym (b.here h)) (bind-stands ready.stand x l);
   }
 
   -- The entry keeps its rules.
   pub ready-rule : Ruled image e (record_at table e)
-  ready-rule = ready.ruled e ready.entry
+  ready-rule = all-ruled image table setup.ruled e ready.entry
 
   -- Its term stands at one of the stages.
   ready-term : {c : Environment} → Stand n c → value c (term_of (record_at table e).t) < n
   ready-term {c} d =
-      let same : stages_of image ≡ n = ready.row.stages in
-      term-stands ready.row.room d
+      let same : stages_of image ≡ n = setup.row.stages in
+      term-stands setup.row.room d
       (subst (λ (k : ℕ). IsTerm k (record_at table e).t) same
       (term-ruled (sort_of (kind_of (record_at table e).kind)) image e (record_at table e) (omega (arith, d 0)) ready-rule))
 
   -- An operand is a lower entry; and the variable that a modality binds in it is one of the four.
   abbrev pub Lower : ℕ → Type 0
-  Lower o = (o < e) × Ready image table next n o env
+  Lower o = (o < e) × Ready table n o env
 
   abbrev pub Operand : ℕ → ℕ → Type 0
-  Operand o y = (o < e) × (Ready image table next n o env × (y < 4))
+  Operand o y = (o < e) × (Ready table n o env × (y < 4))
 
   module _ {r : Record} where
     pub junction-first : Row table e r S.Junction → Lower r.a
@@ -161,21 +170,22 @@ module _ {image table : List ℕ} {next : List Set} {n e : ℕ} {env : Env} (rea
       → from_term image table e c ≡ test (graph_of image) (at_stage (value c (term_of r.t)) (tree_of image table e)) c
   from-here row c = ap (λ (q : Record). test (graph_of image) (at_stage (value c (term_of q.t)) (tree_of image table e)) c) (sym row.entry)
 
-  pub unary-here : {r : Record} → Row table e r S.Unary → (c : Environment)
+  pub modal-here : {r : Record} {s : Sort} → Row table e r s → (s ≡ S.Unary) ⊎ (s ≡ S.Binary) → (c : Environment)
       → from_term image table e c ≡ test (graph_of image) (tree_of image table e) c
-  unary-here row c = from-here row c ∙ sym (test-row image row ready-rule (graph_of image) c)
+  modal-here {r} {s} row is c = from-here row c ∙ sym (test-row image row ready-rule (graph_of image) c ∙ from is)
+    where
+      says : Sort → Bool
+      says q =
+          test_as q (is_first (kind_of r.kind)) (atom (graph_of image) c (atom_of image r)) (test (graph_of image) (tree_of image table r.a) c)
+          (test (graph_of image) (tree_of image table r.b) c) (test (graph_of image) (at_stage (value c (term_of r.t)) (tree_of image table e)) c)
 
-  pub binary-here : {r : Record} → Row table e r S.Binary → (c : Environment)
-      → from_term image table e c ≡ test (graph_of image) (tree_of image table e) c
-  binary-here row c = from-here row c ∙ sym (test-row image row ready-rule (graph_of image) c)
+      from : (s ≡ S.Unary) ⊎ (s ≡ S.Binary) → says s ≡ test (graph_of image) (at_stage (value c (term_of r.t)) (tree_of image table e)) c
+      from (inl u) = ap says u
+      from (inr b) = ap says b
 
-  pub unary-arm : (x : ℕ) {r : Record} {out : ℕ} → Row table e r S.Unary → Collects n (modal_at image table e env x) out
+  pub modal-arm : (x : ℕ) {r : Record} {s : Sort} {out : ℕ} → Row table e r s → (s ≡ S.Unary) ⊎ (s ≡ S.Binary) → Collects n (modal_at image table e env x) out
       → Collects n (held_at image table e env x) out
-  unary-arm x row c = collects-as (λ s h. unary-here row (bind (env_of env) x s)) c
-
-  pub binary-arm : (x : ℕ) {r : Record} {out : ℕ} → Row table e r S.Binary → Collects n (modal_at image table e env x) out
-      → Collects n (held_at image table e env x) out
-  binary-arm x row c = collects-as (λ s h. binary-here row (bind (env_of env) x s)) c
+  modal-arm x row is c = collects-as (λ s h. modal-here row is (bind (env_of env) x s)) c
 
   -- ---- the stages from which a modality holds
 
@@ -183,26 +193,32 @@ module _ {image table : List ℕ} {next : List Set} {n e : ℕ} {env : Env} (rea
     -- From the stages at which the operands hold.
     operands-set : (k : Kind) (a b : ℕ) {p q : Stages} → k ≡ kind_of r.kind → Collects n p a → Collects n q b
         → ((u : ℕ) → test (graph_of image) (at_stage u (tree_of image table e)) (env_of env) ≡ modal (kind_of r.kind) (graph_of image) p q u)
-        → Computes next n (modal_on k a b) out → Collects n (held_from image table e env) out
+        → Computes setup.next.now n (modal_on k a b) out → Collects n (held_from image table e env) out
     operands-set k a b {p} {q} k-is c d says w =
         collects-as
-        (λ u h. modal-agrees (graph_of image) k (λ s l. c.right s (omega (arith, ready.row.stages))) (λ s l. d.right s (omega (arith, ready.row.stages))) u
-        (omega (arith, ready.row.stages))
+        (λ u h. modal-agrees (graph_of image) k (λ s l. c.right s (omega (arith, setup.row.stages))) (λ s l. d.right s (omega (arith, setup.row.stages))) u
+        (omega (arith, setup.row.stages))
         ∙ ap (λ (j : Kind). modal j (graph_of image) p q u) k-is ∙ sym (says u))
-        (collects-by ready.row w)
+        (collects-by setup.row w)
 
     pub unary-set : (k : Kind) (a : ℕ) → Row table e r S.Unary → k ≡ kind_of r.kind → Collects n (held_at image table r.a env r.x) a
-        → Computes next n (modal_on k a a) out → Collects n (held_from image table e env) out
+        → Computes setup.next.now n (modal_on k a a) out → Collects n (held_from image table e env) out
     unary-set k a row k-is c w = operands-set k a a k-is c c (modal-row image row ready-rule (graph_of image) (env_of env)) w
 
     pub binary-set : (k : Kind) (a b : ℕ) → Row table e r S.Binary → k ≡ kind_of r.kind → Collects n (held_at image table r.a env r.x) a
-        → Collects n (held_at image table r.b env r.y) b → Computes next n (modal_on k a b) out → Collects n (held_from image table e env) out
+        → Collects n (held_at image table r.b env r.y) b → Computes setup.next.now n (modal_on k a b) out → Collects n (held_from image table e env) out
     binary-set k a b row k-is c d w = operands-set k a b k-is c d (modal-row image row ready-rule (graph_of image) (env_of env)) w
 
     -- Where the entry is no modality there are none.
-    pub no-set : {s : Sort} → Row table e r s → ((k : Kind) (a b : Stages) (u : ℕ) → modal_as s k (graph_of image) a b u ≡ false) → out ≡ 0
-        → Collects n (held_from image table e env) out
-    no-set row none z = collects-as (λ u h. sym (modal-row image row ready-rule (graph_of image) (env_of env) u ∙ none _ _ _ u)) (collects-none z)
+    pub no-set : {s : Sort} → Row table e r s → Plain s → out ≡ 0 → Collects n (held_from image table e env) out
+    no-set {s} row plain z =
+        collects-as (λ u h. sym (modal-row image row ready-rule (graph_of image) (env_of env) u ∙ none plain _ _ _ u)) (collects-none z)
+      where
+        none : Plain s → (k : Kind) (a b : Stages) (u : ℕ) → modal_as s k (graph_of image) a b u ≡ false
+        none (inl is) k a b u = ap (λ (q : Sort). modal_as q k (graph_of image) a b u) is
+        none (inr (inl is)) k a b u = ap (λ (q : Sort). modal_as q k (graph_of image) a b u) is
+        none (inr (inr (inl is))) k a b u = ap (λ (q : Sort). modal_as q k (graph_of image) a b u) is
+        none (inr (inr (inr is))) k a b u = ap (λ (q : Sort). modal_as q k (graph_of image) a b u) is
 
   -- ---- a modality at each stage of x
 

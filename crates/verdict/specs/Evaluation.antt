@@ -1,12 +1,11 @@
 -- What the evaluation of an entry gives, in the words of the crate `logic`'s executable test.
-use Rattle.sets.specs.declared.Set.{Set}
 use Rattle.std.specs.Prelude.{ℕ, ◌+◌, ◌<◌, ◌≡◌, Bool, List}
 use Rattle.model.specs.Formula.{bind, value, atom}
 use Rattle.model.specs.Formula.{Env as Environment}
 use Rattle.logic.specs.Test.{Stages, test, Stand}
-use Rattle.modal.specs.Row.{member, Row, Inside}
+use Rattle.modal.specs.Row.{member, Inside}
 use Rattle.format.specs.Image.{set_of, graph_of}
-use Rattle.format.specs.Table.{entries_of, record_at, Ruled, term_of, atom_of, tree_of}
+use Rattle.format.specs.Table.{entries_of, record_at, term_of, atom_of, tree_of}
 use Rattle.format.specs.declared.record.Record.{Record}
 use Rattle.hand.specs.Environment.{env_of}
 use Rattle.verdict.specs.Kinds.{literal}
@@ -18,11 +17,8 @@ pub record Collects (n : ℕ) (op : Stages) (r : ℕ) : Type 0 where
   pub inside : Inside n r
   pub right : (s : ℕ) → s < n → member r s ≡ op s
 
--- What an evaluation goes by: the row holds the successors of the image's n stages, every record keeps its rules, the entry is one of the
--- table's, and every variable stands at a stage. All of it holds of a question that is not refused.
-pub record Ready (image table : List ℕ) (next : List Set) (n e : ℕ) (env : Env) : Type 0 where
-  pub row : Row next n (graph_of image)
-  pub ruled : (i : ℕ) → i < entries_of table → Ruled image i (record_at table i)
+-- What an evaluation asks: the entry is one of the table's, and every variable stands at one of the n stages. Of a question that is not refused both hold.
+pub record Ready (table : List ℕ) (n e : ℕ) (env : Env) : Type 0 where
   pub entry : e < entries_of table
   pub stand : Stand n (env_of env)
 

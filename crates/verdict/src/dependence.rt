@@ -13,11 +13,7 @@ fn free_under(image: &[u8], table: &[u8], o: u8, y: u8, x: u8) -> bool
     requires { x < 4 }
     ensures { Decides result (Under x y (Free x (tree_of image.now table.now o))) }
 {
-    if x == y {
-        false
-    } else {
-        variables::free(image, table, o).has(x as usize)
-    }
+    x != y && variables::free(image, table, o).has(x as usize)
 }
 
 // Whether x is free in an operand of a modality, under the operand's own binding.
@@ -26,19 +22,11 @@ pub(crate) fn depends(image: &[u8], table: &[u8], e: u8, x: u8) -> bool
     ensures { Decides result (Inner x (tree_of image.now table.now e)) }
 {
     let r = record::entry(table, e as usize);
-    let sort = record::sort_of(record::kind_of(r.kind));
-    match sort {
+    match record::sort_of(record::kind_of(r.kind)) {
         Sort::Unary => free_under(image, table, r.a, r.x, x),
         Sort::Binary => {
-            if free_under(image, table, r.a, r.x, x) {
-                true
-            } else {
-                free_under(image, table, r.b, r.y, x)
-            }
+            free_under(image, table, r.a, r.x, x) || free_under(image, table, r.b, r.y, x)
         }
-        Sort::Constant => false,
-        Sort::Atom => false,
-        Sort::Junction => false,
-        Sort::NoSort => false,
+        Sort::Constant | Sort::Atom | Sort::Junction | Sort::NoSort => false,
     }
 }

@@ -1,8 +1,8 @@
 // The verdict: whether the goal holds at the start.
 //
 // A question is read and refused, or its goal is evaluated: the successor sets are decoded once into a row of words, a formula becomes the
-// set of the stages at which it holds, with one variable at the stage (`evaluation::where_holds`), and a modality is worked out of its
-// operands' sets by the crate `modal`. The goal itself is asked for one truth value (`truth::holds`).
+// set of the stages at which it holds, with one variable at the stage (`Setup::where_holds`), and a modality is worked out of its
+// operands' sets by the crate `modal`. The goal itself is asked for one truth value (`Setup::holds`).
 //
 // The cost, with n stages, m entries and modalities that nest d deep. An atom is a few operations on whole sets, and n of them where its first
 // term is the variable. A modality is worked out in at most n rounds of n operations, once for each stage of each outer modality's variable
@@ -10,16 +10,17 @@
 // worked out at most n^j times, and once where its operands name no outer variable. So a verdict takes at most m n^(d-1) (n^2 + m) operations,
 // d being at most 4, and m (n^2 + m) where no modality names the variable of another.
 //
-// `evaluation::where_holds`, `evaluation::modal_set` and `truth::holds` require what a question that is not refused has (`Ready`); every other
-// public function takes any input.
+// `Setup::where_holds` and `Setup::holds` require what a question that is not refused has (`Ready`), and a `Setup` what its image and table have; every
+// other public function takes any input.
 #![tactic(auto)]
 
 pub mod answer;
 mod atoms;
 mod dependence;
-pub mod evaluation;
+mod evaluation;
 mod kinds;
-pub mod truth;
+pub mod setup;
+mod truth;
 
 ghost use Rattle.std.specs.Prelude.{◌≡◌};
 ghost use Rattle.format.specs.Answers.{QuestionRead};
@@ -29,8 +30,9 @@ use answer::Verdict;
 use format::question;
 use format::question::Question;
 use hand::env::Env;
-use hand::setup;
+use hand::setup::{NEXT, decode};
 use sets::Set;
+use setup::Setup;
 
 // Whether the goal holds at the start, or the first of the refusals 1 to 13.
 pub fn verdict(image: &[u8], table: &[u8], goal: u64, start: u64) -> Verdict
@@ -56,13 +58,18 @@ fn goal_holds(image: &[u8], table: &[u8], q: Question) -> bool
 {
     let shape = q.shape;
     let inner = shape.image;
-    let n = inner.stages;
-    let mut next = [Set::empty(); setup::NEXT];
-    setup::decode(image, n, &mut next);
+    let mut next = [Set::empty(); NEXT];
+    decode(image, inner.stages, &mut next);
+    let setup = Setup {
+        image,
+        table,
+        next: &next,
+        stages: inner.stages,
+    };
     let env = Env {
         slots: [q.start, 0, 0, 0],
     };
-    truth::holds(image, table, &next, n, q.goal, env)
+    setup.holds(q.goal, env)
 }
 
 // The verdict for callers in C, as one number: a refusal's own, 128 for yes, 129 for no.

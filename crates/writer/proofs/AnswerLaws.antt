@@ -1,11 +1,12 @@
 -- From the two runs over a certificate to the answer.
 --
 --     whole-certificate          what a run over the side that holds goes through is the certificate
---     question-holding           what a run asks: the setup, and that the side holds
+--     question-sets, question-most, question-prepared, question-holding
+--                                what a run asks: the setup, and that the side holds
 --     no_room, with-room         the buffer is too short; the certificate was written
 --     question-refused, question-answered
 --                                the arms of the answer of the question's reader
-use Prim.Native.Nat.{ℕ, ◌+◌, ◌*◌, ◌≤◌, ◌<◌}
+use Prim.Native.Nat.{ℕ, ◌+◌, ◌≤◌, ◌<◌}
 use native.Mathlib.Omega.{arith}
 use native.Mathlib.Nat.{zero-add}
 use mathlib.Core.Path.{◌≡◌, refl, sym, ap, ap₂, ◌∙◌, subst, subst₂}
@@ -22,11 +23,12 @@ use Rattle.logic.specs.Test.{test}
 use Rattle.format.specs.Refusal.{Given, Clear}
 use Rattle.logic.proofs.Duality.{test-dual}
 use Rattle.sets.specs.Number.{width}
+use Rattle.sets.specs.Row.{held}
 use Rattle.sets.proofs.LawsRow.{room-enough}
 use Rattle.modal.specs.Row.{Row}
 use Rattle.format.specs.Image.{stages_of, graph_of}
-use Rattle.format.specs.Table.{entries_of, tree_of}
-use Rattle.format.specs.Question.{question_conditions}
+use Rattle.format.specs.Table.{entries_of, record_at, tree_of}
+use Rattle.format.specs.Question.{setup_conditions, question_conditions}
 use Rattle.format.specs.Answers.{QuestionRead}
 use Rattle.format.specs.declared.Refusal.{Refusal}
 use Rattle.format.specs.declared.Refusal.TheVariants as R
@@ -35,12 +37,13 @@ use Rattle.format.proofs.RefusalLaws.{given-first, given-later, clear_both}
 use Rattle.format.proofs.ReadableLaws
 use Rattle.format.proofs.ReadableLaws.{of-setup, of_image, of-table, sizes}
 use Rattle.hand.specs.Environment.{env_of}
-use Rattle.hand.specs.Setup.{Decoded, Prepared, most_entries}
+use Rattle.hand.specs.Hand.{SuccessorsOf}
+use Rattle.hand.specs.Setup.{Decoded, Prepared, most_entries, entry_at, entry_of}
 use Rattle.hand.specs.declared.env.Env.{Env as Slots}
 use Rattle.hand.proofs.HandLaws.{successors-in}
 use Rattle.hand.proofs.EnvironmentLaws.{start-env}
 use Rattle.verdict.specs.Evaluation.{truth_of}
-use Rattle.verdict.proofs.AnswerLaws.{start_env, asked-readable, question-ready, question-row, own-goal, own-start}
+use Rattle.verdict.proofs.AnswerLaws.{start_env, question-ready, question-row, own-goal, own-start}
 use Rattle.guide.specs.Sides.{truth_on}
 use Rattle.pen.specs.Wrote.{Wrote}
 use Rattle.pen.specs.Steps.{entry_steps, whole_bytes, Holding}
@@ -106,35 +109,46 @@ side-holds image table e env true t = subst T (sym t) tt
 side-holds image table e env false t = subst T (sym (test-dual (graph_of image) (tree_of image table e) (env_of env) ∙ ap not t)) tt
 
 -- A question that was read, its row decoded and its entries prepared.
-pub question-holding : {image table : List ℕ} {next before : List Set} {entries blank : List Entry} {q : Question} {side : ℕ} → QuestionRead image table q.goal q.start q
-    → width ≤ length before → Decoded image q.shape.image.stages before next → length blank ≡ most_entries
-    → Prepared image table q.shape.entries side blank entries → side ≡ side_by (truth_of image table q.goal (start_env q.start))
-    → Holding image table next entries side q.goal (start_env q.start)
-question-holding {image} {table} {next} {before} {entries} {blank} {q} {side} read long d wide p side_is =
-    let clear = read.clear in
-    let of = of-setup image table q.goal q.start clear in
-    let few = (sizes image (of_image image table of)).stages in
-    let fit = ReadableLaws.entries image table (of-table image table of) in
-    let n-is : q.shape.image.stages ≡ stages_of image = ap (λ (k : Question). k.shape.image.stages) read.is in
-    let m-is : q.shape.entries ≡ entries_of table = ap (λ (k : Question). k.shape.entries) read.is in
-    let row = subst (λ (k : ℕ). Row next k (graph_of image)) n-is (question-row read long d) in
-    let ready = question-ready clear row in
-    record {
-      setup =
-          record {
-            row = row;
-            sets = λ s h. successors-in image s h (d.sets s (omega (arith, n-is)) (room-enough before s (omega arith)));
-            readable = asked-readable clear;
-            ruled = ready.ruled;
-            most = fit.most;
-            prepared = λ i h. p.entries i (omega (arith, m-is)) (omega (arith, fit.most)) wide;
-          };
-      entry = ready.entry;
-      stand = ready.stand;
-      holds =
-          subst (λ (k : ℕ). T (truth_on image table k q.goal (start_env q.start))) (sym side_is)
-          (side-holds image table q.goal (start_env q.start) _ refl);
-    }
+module _ {image table : List ℕ} {q : Question} (read : QuestionRead image table q.goal q.start q) where
+  of : Clear (setup_conditions image table)
+  of = of-setup image table q.goal q.start read.clear
+
+  few : stages_of image ≤ width
+  few = (sizes image (of_image image table of)).stages
+
+  n-is : q.shape.image.stages ≡ stages_of image
+  n-is = ap (λ (k : Question). k.shape.image.stages) read.is
+
+  m-is : q.shape.entries ≡ entries_of table
+  m-is = ap (λ (k : Question). k.shape.entries) read.is
+
+  -- Its sets are the successors,
+  pub question-sets : {next before : List Set} → width ≤ length before → Decoded image q.shape.image.stages before next
+      → (s : ℕ) → s < stages_of image → SuccessorsOf image s (held next s)
+  question-sets {before = before} long d s h = successors-in image s h (d.sets s (omega (arith, n-is)) (room-enough before s (omega (arith, few))))
+
+  -- there is room for its entries,
+  pub question-most : entries_of table ≤ most_entries
+  question-most = (ReadableLaws.entries image table (of-table image table of)).most
+
+  -- which are prepared,
+  pub question-prepared : {entries blank : List Entry} {side : ℕ} → length blank ≡ most_entries → Prepared image table q.shape.entries side blank entries
+      → (i : ℕ) → i < entries_of table → entry_at entries i ≡ entry_of image side (record_at table i)
+  question-prepared wide p i h = p.entries i (omega (arith, m-is)) (omega (arith, question-most)) wide
+
+  -- and its goal holds on the side.
+  pub question-holding : {next before : List Set} {side : ℕ} → width ≤ length before → Decoded image q.shape.image.stages before next
+      → side ≡ side_by (truth_of image table q.goal (start_env q.start)) → Holding image table side q.goal (start_env q.start)
+  question-holding {next} {side = side} long d side_is =
+      let row = subst (λ (k : ℕ). Row next k (graph_of image)) n-is (question-row read long d) in
+      let ready = question-ready read.clear row in
+      record {
+        entry = ready.entry;
+        stand = ready.stand;
+        holds =
+            subst (λ (k : ℕ). T (truth_on image table k q.goal (start_env q.start))) (sym side_is)
+            (side-holds image table q.goal (start_env q.start) _ refl);
+      }
 
 -- ---- the question
 

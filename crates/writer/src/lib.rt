@@ -16,10 +16,10 @@ use answer::Answer;
 use format::question::Question;
 use format::{Refusal, question};
 use hand::env::Env;
-use hand::setup;
-use hand::setup::Entry;
+use hand::setup::{ENTRIES, Entry, NEXT, decode, prepare};
+use pen::run::Run;
 use sets::Set;
-use verdict::truth;
+use verdict::setup::Setup;
 
 // Writes the certificate of a goal at a start to the buffer's front, and answers its side and length; or gives the first of the refusals 1 to 13, then
 // 14 where the certificate is longer than the buffer. A refusal changes no byte.
@@ -40,40 +40,41 @@ fn answered(image: &[u8], table: &[u8], q: Question, buffer: &mut [u8]) -> Answe
 {
     let shape = q.shape;
     let inner = shape.image;
-    let n = inner.stages;
-    let mut next = [Set::empty(); setup::NEXT];
-    setup::decode(image, n, &mut next);
+    let mut next = [Set::empty(); NEXT];
+    decode(image, inner.stages, &mut next);
+    let setup = Setup {
+        image,
+        table,
+        next: &next,
+        stages: inner.stages,
+    };
     let env = Env {
         slots: [q.start, 0, 0, 0],
     };
-    let side = side_of(image, table, &next, n, q.goal, env);
-    let mut entries = [Entry::default(); setup::ENTRIES];
-    setup::prepare(image, table, shape.entries, side, &mut entries);
-    let length = pen::whole(
-        image, table, &next, &entries, side, false, q.goal, q.start, env, buffer,
-    );
+    let side = side_of(&setup, q.goal, env);
+    let mut entries = [Entry::default(); ENTRIES];
+    prepare(image, table, shape.entries, side, &mut entries);
+    let mut run = Run {
+        setup,
+        entries: &entries,
+        side,
+        writing: false,
+    };
+    let length = pen::whole(&run, q.goal, q.start, env, buffer);
     if buffer.len() < length {
         return Answer::Refused(Refusal::BufferTooShort);
     }
-    pen::whole(
-        image, table, &next, &entries, side, true, q.goal, q.start, env, buffer,
-    );
-    Answer::Written {
-        side: side,
-        length: length,
-    }
+    run.writing = true;
+    pen::whole(&run, q.goal, q.start, env, buffer);
+    Answer::Written { side, length }
 }
 
 // The side that holds: 0 where the goal does, else 1.
-fn side_of(image: &[u8], table: &[u8], next: &[Set], n: usize, goal: u8, env: Env) -> u8
-    requires { Ready image.now table.now next.now n goal env }
-    ensures { result ≡ side_by (truth_of image.now table.now goal env) }
+fn side_of(setup: &Setup<'_>, goal: u8, env: Env) -> u8
+    requires { Ready setup.now.table.now setup.now.stages goal env }
+    ensures { result ≡ side_by (truth_of setup.now.image.now setup.now.table.now goal env) }
 {
-    if truth::holds(image, table, next, n, goal, env) {
-        0
-    } else {
-        1
-    }
+    if setup.holds(goal, env) { 0 } else { 1 }
 }
 
 // The writing for callers in C, as one number: `answer::code` says which. The certificate's length goes into a lent number, which a refusal leaves as

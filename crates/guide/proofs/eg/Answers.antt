@@ -4,4 +4,4 @@ use Rattle.guide.proofs.eg.Goals as goal
 
 pub returns : goal.returns
 returns c =
-    eg-leads c.requires.0.row _ c.where_on-held.ensures c.eg.ensures c.fill.ensures
+    eg-leads c.args.setup.now.row _ c.where_on-held.ensures c.eg.ensures c.fill.ensures

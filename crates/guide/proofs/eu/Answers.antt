@@ -4,4 +4,4 @@ use Rattle.guide.proofs.eu.Goals as goal
 
 pub returns : goal.returns
 returns c =
-    eu-leads c.requires.0.row _ _ c.where_on-along.ensures c.where_on-now.ensures c.nearest.ensures
+    eu-leads c.args.setup.now.row _ _ c.where_on-along.ensures c.where_on-now.ensures c.nearest.ensures

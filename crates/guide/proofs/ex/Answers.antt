@@ -4,4 +4,4 @@ use Rattle.guide.proofs.ex.Goals as goal
 
 pub returns : goal.returns
 returns c =
-    ex-leads c.requires.0.row _ c.where_on.ensures c.requires.2 c.lowest_next.ensures
+    ex-leads c.args.setup.now.row _ c.where_on.ensures c.requires.1 c.lowest_next.ensures

@@ -4,9 +4,9 @@ use Rattle.guide.proofs.sides.where_on.Goals as goal
 
 pub returns-then-side-eq0 : goal.returns-then-side-eq0
 returns-then-side-eq0 c =
-    where-zero c.args.image.now c.args.table.now c.args.e c.args.env _ _ _ _ c.if-side-eq0.true c.where_holds-held.ensures
+    where-zero c.args.setup.now.image.now c.args.setup.now.table.now c.args.a.entry c.args.env _ _ _ _ c.if-side-eq0.true c.where_holds-held.ensures
 
 pub returns-else-side-eq0 : goal.returns-else-side-eq0
 returns-else-side-eq0 c =
-    where-dual c.args.image.now c.args.table.now c.args.e c.args.env c.args.side _ _ c.if-side-eq0.false c.requires.0.row.room
+    where-dual c.args.setup.now.image.now c.args.setup.now.table.now c.args.a.entry c.args.env c.args.side _ _ c.if-side-eq0.false c.args.setup.now.row.room
     c.below.ensures c.where_holds-held.ensures c.minus.ensures

@@ -5,8 +5,8 @@ use Rattle.guide.proofs.toward.fill.Goals as goal
 
 pub settle-requires : goal.settle-requires
 settle-requires c =
-    (c.requires.0, c.requires.1, inside-all c.below-all.ensures)
+    (c.requires, inside-all c.below.ensures)
 
 pub returns : goal.returns
 returns c =
-    fill-each c.args.next.now c.args.n _ _ c.requires.0 c.below-all.ensures c.settle.ensures
+    fill-each c.args.setup.now.next.now c.args.setup.now.stages _ _ c.args.setup.now.row.room c.below.ensures c.settle.ensures

@@ -2,12 +2,12 @@
 use Rattle.guide.proofs.TowardLaws.{lowest-found, lowest-lacks}
 use Rattle.guide.proofs.toward.lowest_next.Goals as goal
 
-pub returns-then-low-n : goal.returns-then-low-n
-returns-then-low-n c =
-    lowest-found c.args.next.now c.args.n _ c.args.s c.load.ensures
-    c.common.ensures c.lowest-low.ensures c.requires c.if-low-n.true
+pub returns-then-low-setup : goal.returns-then-low-setup
+returns-then-low-setup c =
+    lowest-found c.args.setup.now.next.now c.args.setup.now.stages _ c.args.s c.load.ensures
+    c.common.ensures c.lowest-low.ensures c.args.setup.now.row.room c.if-low-setup.true
 
-pub returns-else-low-n : goal.returns-else-low-n
-returns-else-low-n c =
-    lowest-lacks c.args.next.now c.args.n _ c.args.s c.load.ensures
-    c.common.ensures c.lowest-low.ensures c.if-low-n.false
+pub returns-else-low-setup : goal.returns-else-low-setup
+returns-else-low-setup c =
+    lowest-lacks c.args.setup.now.next.now c.args.setup.now.stages _ c.args.s c.load.ensures
+    c.common.ensures c.lowest-low.ensures c.if-low-setup.false

@@ -8,7 +8,7 @@ use Rattle.guide.proofs.toward.nearest.Goals as goal
 
 pub loop-init : goal.loop-init
 loop-init c =
-    (search rules, λ G R. nearing-start R _ _ c.below-away.ensures c.requires.2)
+    (search rules, λ G R. nearing-start R _ _ c.below-away.ensures c.requires.1)
 
 pub shape_of-toward-then-is_empty : goal.shape_of-toward-then-is_empty
 shape_of-toward-then-is_empty c =
@@ -20,7 +20,7 @@ returns-then-is_empty c =
 
 pub settle-requires : goal.settle-requires
 settle-requires c =
-    (c.requires.0, omega (arith, c.loop.invariant.0, c.requires.1), c.some_next_among-new.ensures.inside)
+    (omega (arith, c.loop.invariant.0, c.requires.0), c.some_next_among-new.ensures.inside)
 
 pub loop-preserved : goal.loop-preserved
 loop-preserved c =

@@ -10,5 +10,5 @@ use Rattle.guide.proofs.toward.nearest.Given as goal
 abbrev pub invariant-loop : goal.invariant-loop
 invariant-loop l =
     (length l.toward ≡ length l.initial.toward)
-    × ((G : Graph) → Row l.next l.n G → Nearing G (member (number l.a)) (member (number l.initial.near)) l.counter (number l.near)
+    × ((G : Graph) → Row l.setup.next.now l.setup.stages G → Nearing G (member (number l.a)) (member (number l.initial.near)) l.counter (number l.near)
     (number l.away) l.initial.toward l.toward)

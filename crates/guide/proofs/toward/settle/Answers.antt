@@ -10,19 +10,16 @@ use Rattle.guide.proofs.toward.settle.Goals as goal
 
 pub loop-s-init : goal.loop-s-init
 loop-s-init c =
-    settle-start _ _ _ _ (number_lt _ _ c.well_formed.1.1.0) c.requires.2
+    settle-start _ _ _ _ (number_lt _ _ c.well_formed.1.0) c.requires.1
     (walk-begins c.into_iter-s-iterator.ensures.into_iter_gives c.stages-s-items.ensures)
-
-pub lowest_next-requires : goal.lowest_next-requires
-lowest_next-requires c = c.requires.0
 
 pub bounds-toward-s : goal.bounds-toward-s
 bounds-toward-s c =
     let below = settle-stage _ _ _ _ c.loop-s.invariant c.in-Some.ensures.steps in
-    omega (arith, below, c.loop-s.invariant.filled.size, c.requires.1)
+    omega (arith, below, c.loop-s.invariant.filled.size, c.requires.0)
 
 pub loop-s-preserved : goal.loop-s-preserved
-loop-s-preserved c = settle-turn _ _ _ _ c.loop-s.invariant c.in-Some.ensures.steps _ c.requires.1 c.lowest_next.ensures
+loop-s-preserved c = settle-turn _ _ _ _ c.loop-s.invariant c.in-Some.ensures.steps _ c.requires.0 c.lowest_next.ensures
 
 pub returns : goal.returns
 returns c = settle-end _ _ _ _ c.loop-s.invariant c.in-None.ensures.steps.0

@@ -5,4 +5,4 @@ use Rattle.guide.proofs.TowardLaws.{Settling}
 use Rattle.guide.proofs.toward.settle.Given as goal
 
 abbrev pub invariant-loop-s : goal.invariant-loop-s
-invariant-loop-s l = Settling l.next l.n (number l.fn.new) (number l.set) l.initial.toward (number l.s-iterator.left) l.toward
+invariant-loop-s l = Settling l.setup.next.now l.setup.stages (number l.fn.new) (number l.set) l.initial.toward (number l.s-iterator.left) l.toward

@@ -1,43 +1,26 @@
 -- `verdict::dependence::depends` meets its contract: what the row of the entry's kind says of its operands.
-use mathlib.Core.Bool.{true, false}
-use mathlib.Core.Logic.{inl}
-use Rattle.model.specs.Decides.{decided, refuted}
+use mathlib.Core.Path.{refl}
+use Rattle.model.specs.Decides.{refuted}
 use Rattle.format.proofs.TreeLaws.{row}
-use Rattle.verdict.proofs.EntryLaws.{inner-decides, second-decides}
+use Rattle.verdict.proofs.EntryLaws.{inner-decides, inner-none, first-decides, second-decides}
 use Rattle.verdict.proofs.dependence.depends.Goals as goal
 
 pub returns-in-Unary : goal.returns-in-Unary
 returns-in-Unary c =
-    inner-decides c.args.image.now (row c.entry-r.ensures c.kind_of.ensures c.sort_of-sort.ensures c.in-Unary.is) c.requires.0 c.args.x
+    inner-decides c.args.image.now (row c.entry-r.ensures c.kind_of.ensures c.sort_of.ensures c.in-Unary.is) c.requires.0 c.args.x
     c.free_under.result c.free_under.ensures
 
 pub returns-then-free_under : goal.returns-then-free_under
 returns-then-free_under c =
-    inner-decides c.args.image.now (row c.entry-r.ensures c.kind_of.ensures c.sort_of-sort.ensures c.in-Binary.is) c.requires.0 c.args.x true
-    (inl (decided _ c.free_under-in-Binary.ensures c.if-free_under.true))
+    first-decides c.args.image.now (row c.entry-r.ensures c.kind_of.ensures c.sort_of.ensures c.in-Binary.is) c.requires.0 c.args.x
+    c.if-free_under.true c.free_under-in-Binary.ensures
 
 pub returns-else-free_under : goal.returns-else-free_under
 returns-else-free_under c =
-    second-decides c.args.image.now (row c.entry-r.ensures c.kind_of.ensures c.sort_of-sort.ensures c.in-Binary.is) c.requires.0 c.args.x
+    second-decides c.args.image.now (row c.entry-r.ensures c.kind_of.ensures c.sort_of.ensures c.in-Binary.is) c.requires.0 c.args.x
     c.free_under-else-free_under.result
     (refuted _ c.free_under-in-Binary.ensures c.if-free_under.false) c.free_under-else-free_under.ensures
 
 pub returns-in-Constant : goal.returns-in-Constant
 returns-in-Constant c =
-    inner-decides c.args.image.now (row c.entry-r.ensures c.kind_of.ensures c.sort_of-sort.ensures c.in-Constant.is) c.requires.0 c.args.x false
-    (λ n. n)
-
-pub returns-in-Atom : goal.returns-in-Atom
-returns-in-Atom c =
-    inner-decides c.args.image.now (row c.entry-r.ensures c.kind_of.ensures c.sort_of-sort.ensures c.in-Atom.is) c.requires.0 c.args.x false
-    (λ n. n)
-
-pub returns-in-Junction : goal.returns-in-Junction
-returns-in-Junction c =
-    inner-decides c.args.image.now (row c.entry-r.ensures c.kind_of.ensures c.sort_of-sort.ensures c.in-Junction.is) c.requires.0 c.args.x false
-    (λ n. n)
-
-pub returns-in-NoSort : goal.returns-in-NoSort
-returns-in-NoSort c =
-    inner-decides c.args.image.now (row c.entry-r.ensures c.kind_of.ensures c.sort_of-sort.ensures c.in-NoSort.is) c.requires.0 c.args.x false
-    (λ n. n)
+    inner-none c.args.image.now (row c.entry-r.ensures c.kind_of.ensures c.sort_of.ensures refl) c.requires.0 c.in-Constant.is c.args.x

@@ -1,0 +1,27 @@
+-- `verdict::setup::Setup::where_column` meets its contract. The loop's invariant: the stages found are those below s with P(s, b).
+use mathlib.Core.Path.{◌∙◌, sym, ap}
+use native.Mathlib.Omega.{arith}
+use borrow.Author.Rules.{rules}
+use Rattle.sets.specs.Number.{number}
+use Rattle.verdict.proofs.AtomLaws.{column-turn}
+use Rattle.verdict.proofs.CollectLaws.{collects-start, collects-take, collects-skip, collects-end}
+use Rattle.verdict.proofs.setup.Setup.where_column.Goals as goal
+use Rattle.verdict.proofs.setup.Setup.where_column.Goals.{then-has, else-has}
+
+pub loop-s-init : goal.loop-s-init
+loop-s-init c = (search rules, collects-start _ c.empty-found.ensures)
+
+pub loop-s-preserved : goal.loop-s-preserved
+loop-s-preserved c =
+    let inv = c.loop-s.invariant in
+    let own = column-turn c.args.self.now.image.now c.args.first c.args.b c.args.env c.args.x c.loop-s.s c.requires.1 c.bound.ensures c.stage_of-c.ensures
+    c.set.ensures c.has.ensures in (
+      search rules,
+      elim c.if-has.branch [
+        | then-has w ↦ collects-take inv.1 (omega (arith, c.args.self.now.row.room)) (sym own ∙ w.if-has.true) (ap number w.found-is ∙ w.with-found.ensures)
+        | else-has w ↦ collects-skip inv.1 (sym own ∙ w.if-has.false) (ap number w.found-is)
+      ],
+    )
+
+pub returns : goal.returns
+returns c = collects-end c.loop-s.invariant.0 c.loop-s-test.false c.loop-s.invariant.1
