@@ -271,9 +271,7 @@ fn walk(
                 if steps.len() < here {
                     return here;
                 }
-                here = walk(
-                    sets, entries, steps, e, env, grown, t as u8, here, fault,
-                );
+                here = walk(sets, entries, steps, e, env, grown, t as u8, here, fault);
             }
             here
         }

@@ -18,8 +18,14 @@ pub fn free(image: &[u8], table: &[u8], e: u8) -> Set
         Sort::Constant => Set::empty(),
         Sort::Atom => free_in_atom(image, r),
         Sort::Junction => free_below(image, table, e, r.a).union(free_below(image, table, e, r.b)),
-        Sort::Unary => variable_in(r.t).union(free_below(image, table, e, r.a).without(r.x as usize)),
-        Sort::Binary => variable_in(r.t).union(free_below(image, table, e, r.a).without(r.x as usize).union(free_below(image, table, e, r.b).without(r.y as usize))),
+        Sort::Unary => variable_in(r.t).union(free_below(image, table, e, r.a).without(
+            r.x as usize,
+        )),
+        Sort::Binary => variable_in(r.t).union(
+            free_below(image, table, e, r.a)
+                .without(r.x as usize)
+                .union(free_below(image, table, e, r.b).without(r.y as usize)),
+        ),
         Sort::NoSort => Set::empty(),
     }
 }

@@ -23,13 +23,7 @@ fn write(input: &[u8], certificate: &mut [u8]) -> Answer
     ensures { Wrote input.now certificate.old certificate.new result }
 {
     match line::parts(input) {
-        Ok(p) => writer::write(
-            p.image,
-            p.table,
-            p.goal as u64,
-            p.start as u64,
-            certificate,
-        ),
+        Ok(p) => writer::write(p.image, p.table, p.goal as u64, p.start as u64, certificate),
         Err(k) => Answer::Refused(k),
     }
 }
