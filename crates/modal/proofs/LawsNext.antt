@@ -28,9 +28,7 @@ use Rattle.sets.specs.Row.{held}
 use Rattle.sets.proofs.LawsMember.{has-test, has-and, has-minus, empty-zero}
 use Rattle.sets.proofs.LawsWalk.{Gathered, gather-take, gather-skip, gathered}
 use Rattle.modal.specs.Row.{member, Row, Computes, Meets, Meeting}
-use Rattle.modal.specs.Rounds.{step, step_on, ready_on}
-use Rattle.modal.specs.declared.Which.{Which}
-use Rattle.modal.specs.declared.Which.TheVariants.{Some, Each}
+use Rattle.modal.specs.Modal.{ex_among, ax_among}
 use Rattle.modal.proofs.LawsMember.{computes-as, clip-agrees, member-says, member-minus, member-all, below, has_all}
 use Rattle.modal.proofs.LawsMember.{inside-all, inside-right, inside-minus, some-member}
 
@@ -124,8 +122,7 @@ but-those false e = refl
 
 module _ {next : List Set} {n all asked : ℕ} (among x : ℕ) (a : all ≡ below n) (f : asked ≡ bit_and among all) where
   -- Some successor is in x where the successors meet what x has below n.
-  pub ready-some : {wanted r : ℕ} → wanted ≡ bit_and x all → Meeting next asked wanted r → Computes next n (ready_on Some among x) r
-  unfolding step
+  pub ready-some : {wanted r : ℕ} → wanted ≡ bit_and x all → Meeting next asked wanted r → Computes next n (ex_among among x) r
   ready-some {wanted} {r} e m = record {
     inside = λ k h. inside-right among all f (inside-all a) k ((m.each k).0 h).0;
     right = λ G R s h.
@@ -141,8 +138,7 @@ module _ {next : List Set} {n all asked : ℕ} (among x : ℕ) (a : all ≡ belo
 
   -- Each successor is in x where the successors do not meet what is outside x below n.
   pub ready-each : {outer out r : ℕ} → outer ≡ all - bit_and all x → Meeting next asked outer out → r ≡ asked - bit_and asked out
-      → Computes next n (ready_on Each among x) r
-  unfolding step
+      → Computes next n (ax_among among x) r
   ready-each {outer} {out} {r} o m e = record {
     inside = inside-minus asked out e (inside-right among all f (inside-all a));
     right = λ G R s h.
@@ -163,8 +159,7 @@ module _ {next : List Set} {n all asked : ℕ} (among x : ℕ) (a : all ≡ belo
             ((has-minus all x t).1 (has_all a R.room p.0, λ u. (T_not (member x t)).0 p.1 ((has-test x t).1 u))),
       )
 
--- Where every stage is asked, it is the step.
-pub asked-all : {next : List Set} {n all r : ℕ} (which : Which) (x : ℕ) → all ≡ below n → Computes next n (ready_on which all x) r
-    → Computes next n (step_on which x) r
-asked-all {all = all} which x a c =
-    computes-as (λ G R s h. ap (λ (b : Bool). b && step which G (member x) s) (member-all a R.room s h)) c
+-- Where every stage is asked, nothing is.
+pub asked-all : {next : List Set} {n all r : ℕ} (op : Graph → Stages) → all ≡ below n → Computes next n (λ G s. member all s && op G s) r
+    → Computes next n op r
+asked-all op a c = computes-as (λ G R s h. ap (λ (b : Bool). b && op G s) (member-all a R.room s h)) c

@@ -7,7 +7,7 @@
 --
 -- Assumes nothing.
 use mathlib.Core.Path.{◌≡◌, refl, sym, ◌∙◌, subst}
-use mathlib.Core.Bool.{true, false}
+use mathlib.Core.Bool.{false}
 use mathlib.Core.List.{List}
 use Prim.Native.Nat.{ℕ, ◌≤◌}
 use lib.Dec.{T}
@@ -21,11 +21,8 @@ use Rattle.sets.specs.Row.{held}
 use Rattle.sets.proofs.LawsMember.{has-test, within-antisym}
 use Rattle.sets.proofs.LawsRow.{set_same}
 use Rattle.modal.specs.Row.{member, Row, Inside, Computes}
-use Rattle.modal.specs.Rounds.{step, round}
-use Rattle.modal.specs.declared.Which.TheVariants.{Some, Each}
-use Rattle.modal.specs.declared.Way.TheVariants.{Shrink, Grow}
 use Rattle.modal.proofs.LawsMember.{Agree}
-use Rattle.modal.proofs.LawsRounds.{rounds-same}
+use Rattle.modal.proofs.LawsRounds.{eg-same, af-same, ar-same, eu-same, rounds-same}
 
 -- The graph that a row of n sets is. Its predicates are true of nothing.
 abbrev pub row_graph : List Set → ℕ → Graph
@@ -65,19 +62,15 @@ module _ (G : Graph) {b b' : Stages} (e : Agree G.stages b b') where
 
   -- AF and EG,
   pub af-agrees : Agree G.stages (af G b) (af G b')
-  unfolding step round
-  af-agrees = rounds-same G.stages Grow Each G (λ t. true) (λ t. true) b b' (λ t i. refl) e
+  af-agrees = rounds-same G e (λ x y d. af-same G d) G.stages
 
   pub eg-agrees : Agree G.stages (eg G b) (eg G b')
-  unfolding step round
-  eg-agrees = rounds-same G.stages Shrink Some G (λ t. false) (λ t. false) b b' (λ t i. refl) e
+  eg-agrees = rounds-same G e (λ x y d. eg-same G d) G.stages
 
   -- AR and EU.
   module _ {a a' : Stages} (f : Agree G.stages a a') where
     pub ar-agrees : Agree G.stages (ar G a b) (ar G a' b')
-    unfolding step round
-    ar-agrees = rounds-same G.stages Shrink Each G a a' b b' f e
+    ar-agrees = rounds-same G e (λ x y d. ar-same G d f) G.stages
 
     pub eu-agrees : Agree G.stages (eu G a b) (eu G a' b')
-    unfolding step round
-    eu-agrees = rounds-same G.stages Grow Some G a a' b b' f e
+    eu-agrees = rounds-same G e (λ x y d. eu-same G d f) G.stages

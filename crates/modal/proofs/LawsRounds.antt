@@ -1,75 +1,64 @@
--- Rounds: what agrees below n stays so, a set that a round leaves as it was is what any more rounds give, and the loop that makes rounds until
--- one changes nothing. Every law is over which way rounds go and which successors they ask for, so that it serves the four modalities.
+-- Rounds: what agrees below n stays so, what the code makes of a set is a round of it, and the loop that makes rounds until one changes nothing.
+-- The laws of the loop are over any round, so that they serve the four modalities.
 --
---     step_same, round_same, rounds-same   what counts of sets is below n
---     rest                                 a round that changes nothing ends the rounds
---     shrink-computes, grow-computes       a round, worked out
---     loop-start, loop-more, loop-rest, loop-end
---     clip-inside, clip-computes           rounds from what is below n of a set
---     eg-computes, af-computes             where no stage, or every stage, is the set beside the step
+--     eg-same, af-same, ar-same, eu-same   what counts of sets in a round is below n,
+--     rounds-same                          and in as many rounds as there may be
+--     eg-turned, af-turned, ar-turned, eu-turned
+--                                          the round of each modality, worked out
+--     loop-start, loop-more                so many rounds of what a closure makes
+--     loop-rest                            a round that changes nothing ends the rounds
+--     all-rounds                           as many rounds as there are stages
 --
 -- Assumes nothing.
 use Rattle.sets.specs.declared.Set.{Set}
 use mathlib.Core.Path.{◌≡◌, refl, sym, ap, ap₂, ◌∙◌, subst}
 use mathlib.Core.Bool.{Bool, true, false, not, ◌&&◌, ◌||◌}
 use mathlib.Core.List.{List}
-use mathlib.Core.Logic.{⊎_elim}
 use Prim.Native.Nat.{ℕ, zero, suc, ◌+◌, ◌-◌, ◌≤◌}
+use native.Mathlib.Nat.{zero-add, suc-add}
 use native.Mathlib.Numerals.{add-one}
 use native.Mathlib.Omega.{arith}
 use lib.Bits.{bit_and, bit_or}
 use Rattle.model.specs.Graph.{Graph}
 use Rattle.logic.proofs.Successors.{some-next-same, each-next-same}
-use Rattle.logic.specs.Test.{Stages, iter}
-use Rattle.sets.proofs.LawsMember.{side?}
+use Rattle.logic.specs.Test.{Stages, iter, each_next, eg_round, af_round, ar_round, eu_round}
+use Rattle.sets.specs.Number.{number}
 use Rattle.modal.specs.Row.{member, Inside, Computes}
-use Rattle.modal.specs.Rounds.{step, round, rounds, ready_on, round_on, after_on, rounds_on}
-use Rattle.modal.specs.Modal.{eg_of, af_of}
-use Rattle.modal.specs.declared.Which.{Which}
-use Rattle.modal.specs.declared.Which.TheVariants.{Some, Each}
-use Rattle.modal.specs.declared.Way.{Way}
-use Rattle.modal.specs.declared.Way.TheVariants.{Shrink, Grow}
-use Rattle.modal.proofs.LawsMember.{Agree, computes-as, clip-agrees, below, member-same, member-and, member-or, member-minus}
-use Rattle.modal.proofs.LawsMember.{member-none, member-all}
-use Rattle.modal.proofs.LawsMember.{inside-or, inside-left, inside-right, inside-all}
+use Rattle.modal.specs.Modal.{ex_among, ax_among}
+use Rattle.modal.specs.Rounds.{Round, Turned, Rounded}
+use Rattle.modal.proofs.LawsMember.{Agree, computes-as, clip-agrees, below, member-and, member-or, member-minus}
+use Rattle.modal.proofs.LawsMember.{member-all, inside-or, inside-left, inside-right, inside-all}
 
 -- ---- only what is below n counts
 
--- Sets that agree on the stages give the same step,
-pub step_same : (which : Which) (G : Graph) (x y : Stages) → Agree G.stages x y → (s : ℕ) → step which G x s ≡ step which G y s
-unfolding step
-step_same Some G x y e s = some-next-same G x y e s
-step_same Each G x y e s = each-next-same G x y e s
+module _ (G : Graph) {x y : Stages} (e : Agree G.stages x y) where
+  -- Sets that agree on the stages give the same round,
+  pub eg-same : Agree G.stages (eg_round G x) (eg_round G y)
+  eg-same s h = ap₂ ◌&&◌ (e s h) (some-next-same G x y e s)
 
--- rounds that agree on the stages,
-pub round_same : (way : Way) (which : Which) (G : Graph) (a a' x y : Stages) → Agree G.stages a a' → Agree G.stages x y
-    → Agree G.stages (round way which G a x) (round way which G a' y)
-unfolding round
-round_same Shrink which G a a' x y f e s h = ap₂ ◌&&◌ (e s h) (ap₂ ◌||◌ (f s h) (step_same which G x y e s))
-round_same Grow which G a a' x y f e s h = ap₂ ◌||◌ (e s h) (ap₂ ◌&&◌ (f s h) (step_same which G x y e s))
+  pub af-same : Agree G.stages (af_round G x) (af_round G y)
+  af-same s h = ap₂ ◌||◌ (e s h) (each-next-same G x y e s)
 
--- and as many of them as there may be.
-pub rounds-same : (k : ℕ) (way : Way) (which : Which) (G : Graph) (a a' b b' : Stages) → Agree G.stages a a' → Agree G.stages b b'
-    → Agree G.stages (rounds k way which G a b) (rounds k way which G a' b')
-unfolding iter
-rounds-same zero way which G a a' b b' f e = e
-rounds-same (suc k) way which G a a' b b' f e = round_same way which G a a' _ _ f (rounds-same k way which G a a' b b' f e)
+  pub ar-same : {a b : Stages} → Agree G.stages a b → Agree G.stages (ar_round G a x) (ar_round G b y)
+  ar-same f s h = ap₂ ◌&&◌ (e s h) (ap₂ ◌||◌ (f s h) (each-next-same G x y e s))
 
--- ---- rest
+  pub eu-same : {a b : Stages} → Agree G.stages a b → Agree G.stages (eu_round G a x) (eu_round G b y)
+  eu-same f s h = ap₂ ◌||◌ (e s h) (ap₂ ◌&&◌ (f s h) (some-next-same G x y e s))
 
--- Where x is what k rounds give, and a round changes nothing of x below n, x is what any more rounds give.
-pub rest : (way : Way) (which : Which) (G : Graph) (a b x : Stages) → Agree G.stages (round way which G a x) x
-    → (m k : ℕ) → k ≤ m → Agree G.stages x (rounds k way which G a b) → Agree G.stages x (rounds m way which G a b)
-unfolding iter
-rest way which G a b x still zero k h e =
-    let z : k ≡ 0 = omega arith in subst (λ (j : ℕ). Agree G.stages x (rounds j way which G a b)) z e
-rest way which G a b x still (suc m) k h e =
-    ⊎_elim
-    (λ l s i. sym (still s i) ∙ round_same way which G a a x _ (λ t j. refl) (rest way which G a b x still m k (omega arith) e) s i)
-    (λ l. let z : k ≡ suc m = omega arith in subst (λ (j : ℕ). Agree G.stages x (rounds j way which G a b)) z e)
-    (side? k (suc m))
+  -- and as many of them as there may be.
+  pub rounds-same : {f g : Stages → Stages} → ((x y : Stages) → Agree G.stages x y → Agree G.stages (f x) (g y)) → (k : ℕ)
+      → Agree G.stages (iter f k x) (iter g k y)
+  unfolding iter
+  rounds-same same zero = e
+  rounds-same same (suc k) = same _ _ (rounds-same same k)
 
 -- ---- a round, worked out
+
+-- What is worked out from x itself, where only what is below n counts, is the round of x.
+turned : {next : List Set} {n x y : ℕ} (round : Round) → ((G : Graph) (x y : Stages) → Agree G.stages x y → Agree G.stages (round G x) (round G y))
+    → (Inside n x → Computes next n (λ G. round G (member x)) y) → Turned next n round x y
+turned {x = x} round same made op c =
+    computes-as (λ G R s h. same G (member x) (op G) (λ t l. c.right G R t (omega arith)) s (omega arith)) (made c.inside)
 
 -- What a round need not look at: a stage with a stays,
 shrink-asks : (x a e : Bool) → ((x && a) || ((x && not a) && e)) ≡ (x && (a || e))
@@ -83,88 +72,74 @@ grow-asks true a e = refl
 grow-asks false true e = refl
 grow-asks false false e = refl
 
-module _ {next : List Set} {n : ℕ} (which : Which) (a x : ℕ) {asked ready r : ℕ} (c : Computes next n (ready_on which asked x) ready) where
-  -- One that shrinks,
-  pub shrink-computes : {released : ℕ} → released ≡ bit_and x a → asked ≡ x - bit_and x a → r ≡ bit_or released ready → Inside n x
-      → Computes next n (round_on Shrink which a x) r
-  unfolding round
-  shrink-computes {released} f g e i = record {
-    inside = inside-or released ready e (inside-left x a f i) c.inside;
+module _ {next : List Set} {n asked found r : ℕ} (a x : ℕ) (op : Graph → Stages) (c : Computes next n (λ G s. member asked s && op G s) found) where
+  -- The stages of x that have a or pass the test, and x with the stages that have a and pass it.
+  shrunk : {released : ℕ} → r ≡ bit_or released found → released ≡ bit_and x a → asked ≡ x - bit_and x a → Inside n x
+      → Computes next n (λ G s. member x s && (member a s || op G s)) r
+  shrunk {released} e f g i = record {
+    inside = inside-or released found e (inside-left x a f i) c.inside;
     right = λ G R s h.
-        let st = step which G (member x) s in
-        member-or released ready e s
-        ∙ ap₂ ◌||◌ (member-and x a f s) (c.right G R s h ∙ ap (λ (b : Bool). b && st) (member-minus x a g s))
-        ∙ shrink-asks (member x s) (member a s) st;
+        member-or released found e s
+        ∙ ap₂ ◌||◌ (member-and x a f s) (c.right G R s h ∙ ap (λ (b : Bool). b && op G s) (member-minus x a g s))
+        ∙ shrink-asks (member x s) (member a s) (op G s);
   }
 
-  -- and one that grows.
-  pub grow-computes : asked ≡ a - bit_and a x → r ≡ bit_or x ready → Inside n x → Computes next n (round_on Grow which a x) r
-  unfolding round
-  grow-computes g e i = record {
-    inside = inside-or x ready e i c.inside;
+  grown : r ≡ bit_or x found → asked ≡ a - bit_and a x → Inside n x → Computes next n (λ G s. member x s || (member a s && op G s)) r
+  grown e g i = record {
+    inside = inside-or x found e i c.inside;
     right = λ G R s h.
-        let st = step which G (member x) s in
-        member-or x ready e s
-        ∙ ap (◌||◌ (member x s)) (c.right G R s h ∙ ap (λ (b : Bool). b && st) (member-minus a x g s))
-        ∙ grow-asks (member x s) (member a s) st;
+        member-or x found e s
+        ∙ ap (◌||◌ (member x s)) (c.right G R s h ∙ ap (λ (b : Bool). b && op G s) (member-minus a x g s))
+        ∙ grow-asks (member x s) (member a s) (op G s);
   }
+
+-- So the set y that a closure gives is the round of x, where its last step gives r.
+module _ {next : List Set} {n x : ℕ} {y r : Set} (is : y ≡ r) where
+  pub eg-turned : Computes next n (ex_among x x) (number r) → Turned next n eg_round x (number y)
+  eg-turned c = rw is (turned eg_round (λ G x y e. eg-same G e) (λ i. c))
+
+module _ (a : ℕ) {next : List Set} {n x asked found : ℕ} {y r : Set} (is : y ≡ r) where
+  pub ar-turned : {released : ℕ} → number r ≡ bit_or released found → released ≡ bit_and x a → Computes next n (ax_among asked x) found
+      → asked ≡ x - bit_and x a → Turned next n (λ G. ar_round G (member a)) x (number y)
+  ar-turned e f c g = rw is (turned (λ G. ar_round G (member a)) (λ G x y e. ar-same G e (λ t l. refl)) (shrunk a x _ c e f g))
+
+  pub eu-turned : number r ≡ bit_or x found → Computes next n (ex_among asked x) found → asked ≡ a - bit_and a x
+      → Turned next n (λ G. eu_round G (member a)) x (number y)
+  eu-turned e c g = rw is (turned (λ G. eu_round G (member a)) (λ G x y e. eu-same G e (λ t l. refl)) (grown a x _ c e g))
+
+module _ {next : List Set} {n x all asked found : ℕ} {y r : Set} (is : y ≡ r) where
+  pub af-turned : all ≡ below n → number r ≡ bit_or x found → Computes next n (ax_among asked x) found → asked ≡ all - bit_and all x
+      → Turned next n af_round x (number y)
+  af-turned f e c g =
+      rw is (turned af_round (λ G x y e. af-same G e) (λ i.
+      computes-as (λ G R s h. ap (λ (b : Bool). member x s || (b && each_next G (member x) s)) (member-all f R.room s h)) (grown all x _ c e g i)))
 
 -- ---- the loop
 
-module _ {next : List Set} {n : ℕ} (way : Way) (which : Which) (a b : ℕ) where
-  -- Before the first round, from a set inside the stages.
-  pub loop-start : Inside n b → Computes next n (after_on 0 way which a b) b
+module _ {post : Set → Set → Type 0} {n : ℕ} (b : ℕ) where
+  -- Before the first round, from what is below n of b.
+  pub loop-start : {all x : ℕ} → all ≡ below n → x ≡ bit_and b all → Rounded post n 0 b x
   unfolding iter
-  loop-start i = record { inside = i; right = λ G R s h. refl }
+  loop-start {all} f e next step m = record { inside = inside-right b all e (inside-all f); right = λ G R s h. clip-agrees b f e R.room s h }
 
-  module _ (k : ℕ) {x y : ℕ} (c : Computes next n (after_on k way which a b) x) (d : Computes next n (round_on way which a x) y) where
+  module _ (k : ℕ) {x y : Set} (c : Rounded post n k b (number x)) (p : post x y) where
     -- A round more.
-    pub loop-more : Computes next n (after_on (k + 1) way which a b) y
+    pub loop-more : Rounded post n (k + 1) b (number y)
     unfolding iter
-    loop-more = rw (add-one k) (record {
-      inside = d.inside;
-      right = λ G R s h.
-          d.right G R s h
-          ∙ round_same way which G (member a) (member a) (member x) _ (λ t i. refl) (λ t i. c.right G R t (omega arith)) s (omega arith);
-    })
+    loop-more next step m = rw (add-one k) (m x y p _ (c next step m))
 
     -- A round that changed nothing: the rounds left would change nothing either.
-    pub loop-rest : k ≤ n → x ≡ y → Computes next n (rounds_on way which a b) x
-    loop-rest h e = record {
-      inside = c.inside;
-      right = λ G R s i.
-          rest way which G (member a) (member b) (member x)
-          (λ t j. sym (d.right G R t (omega arith)) ∙ member-same (sym e) t)
-          G.stages k (omega arith) (λ t j. c.right G R t (omega arith)) s (omega arith);
-    }
+    still : number x ≡ number y → (i : ℕ) → Rounded post n (i + k) b (number x)
+    unfolding iter
+    still e zero next step m = rw (zero-add k) (c next step m)
+    still e (suc i) next step m =
+        rw (suc-add i k)
+        (subst (Computes next n (λ G. step G (iter (step G) (i + k) (member b)))) (sym e) (m x y p _ (still e i next step m)))
 
-  -- After the last round.
-  pub loop-end : (k : ℕ) {x : ℕ} → k ≤ n → n ≤ k → Computes next n (after_on k way which a b) x → Computes next n (rounds_on way which a b) x
-  loop-end k l g c = computes-as (λ G R s h. ap (λ (j : ℕ). rounds j way which G (member a) (member b) s) (omega arith)) c
+    pub loop-rest : number x ≡ number y → k ≤ n → Rounded post n n b (number x)
+    loop-rest e h = subst (λ (j : ℕ). Rounded post n j b (number x)) (omega arith) (still e (n - k))
 
--- ---- where the rounds start, and what stands beside the step
-
--- What is below n of a set is inside the stages,
-pub clip-inside : {n all x : ℕ} (b : ℕ) → all ≡ below n → x ≡ bit_and b all → Inside n x
-clip-inside {all = all} b f e = inside-right b all e (inside-all f)
-
--- and as it agrees with the set there, rounds from it are rounds from the set.
-pub clip-computes : {next : List Set} {n r all x : ℕ} (way : Way) (which : Which) (a b : ℕ) → all ≡ below n → x ≡ bit_and b all
-    → Computes next n (rounds_on way which a x) r → Computes next n (rounds_on way which a b) r
-clip-computes {x = x} way which a b f e c =
-    computes-as (λ G R s h. rounds-same G.stages way which G (member a) (member a) (member x) (member b) (λ t i. refl)
-    (λ t i. clip-agrees b f e R.room t (omega arith)) s (omega arith)) c
-
--- Where a is empty, rounds that shrink by some successor are those of EG.
-pub eg-computes : {next : List Set} {n r : ℕ} (a b : ℕ) → a ≡ 0 → Computes next n (rounds_on Shrink Some a b) r → Computes next n (eg_of b) r
-unfolding step round
-eg-computes a b e c =
-    computes-as (λ G R s h. rounds-same G.stages Shrink Some G (member a) (λ t. false) (member b) (member b)
-    (λ t i. member-none e t) (λ t i. refl) s (omega arith)) c
-
--- Where a has every stage, rounds that grow by each successor are those of AF.
-pub af-computes : {next : List Set} {n r : ℕ} (a b : ℕ) → a ≡ below n → Computes next n (rounds_on Grow Each a b) r → Computes next n (af_of b) r
-unfolding step round
-af-computes a b e c =
-    computes-as (λ G R s h. rounds-same G.stages Grow Each G (member a) (λ t. true) (member b) (member b)
-    (λ t i. member-all e R.room t (omega arith)) (λ t i. refl) s (omega arith)) c
+-- n rounds are as many as there are stages.
+pub all-rounds : {next : List Set} {n x : ℕ} (step : Round) (b : ℕ) → Computes next n (λ G. iter (step G) n (member b)) x
+    → Computes next n (λ G. iter (step G) G.stages (member b)) x
+all-rounds step b c = computes-as (λ G R s h. ap (λ (j : ℕ). iter (step G) j (member b) s) (sym R.stages)) c

@@ -16,6 +16,10 @@ ex_among among a G s = member among s && some_next G (member a) s
 abbrev pub ax_of : ℕ → Graph → Stages
 ax_of a G = each_next G (member a)
 
+-- AX, asked of some stages only.
+abbrev pub ax_among : ℕ → ℕ → Graph → Stages
+ax_among among a G s = member among s && each_next G (member a) s
+
 -- EG: as many rounds as there are stages, from a, that keep what has a successor in the set.
 abbrev pub eg_of : ℕ → Graph → Stages
 eg_of a G = eg G (member a)

@@ -1,47 +1,23 @@
--- A round, and the rounds of the four modalities that are fixpoints, with what tells them apart as parameters: which way a round changes a
--- set, which successors it asks for, and a set a of stages: where rounds shrink they need no successor, where rounds grow only they are added.
---
---     rounds Shrink Some, with no stage for a    EG        rounds Shrink Each    AR
---     rounds Grow Each, with every stage for a   AF        rounds Grow Some      EU
-use Rattle.std.specs.Prelude.{ℕ, ◌&&◌, ◌||◌}
+-- Rounds of the modalities that are fixpoints: what it is for a set that the code makes of another to be a round of it.
+use Rattle.std.specs.Prelude.{ℕ, List}
 use Rattle.model.specs.Graph.{Graph}
-use Rattle.logic.specs.Test.{Stages, shrink, grow, iter, some_next, each_next}
-use Rattle.modal.specs.Row.{member}
-use Rattle.modal.specs.declared.Which.{Which}
-use Rattle.modal.specs.declared.Which.TheVariants.{Some, Each}
-use Rattle.modal.specs.declared.Way.{Way}
-use Rattle.modal.specs.declared.Way.TheVariants.{Shrink, Grow}
+use Rattle.logic.specs.Test.{Stages, iter}
+use Rattle.sets.specs.declared.Set.{Set}
+use Rattle.sets.specs.Number.{number}
+use Rattle.modal.specs.Row.{member, Computes}
 
--- The stages with some, or with each, successor in x.
-unfoldable pub step : Which → Graph → Stages → Stages
-step Some G = some_next G
-step Each G = each_next G
+-- A round, over any graph.
+abbrev pub Round : Type 0
+Round = Graph → Stages → Stages
 
--- A round that keeps what has a or the step, and one that adds what has a and the step.
-unfoldable pub round : Way → Which → Graph → Stages → Stages → Stages
-round Shrink which G a = shrink (λ x s. a s || step which G x s)
-round Grow which G a = grow (λ x s. a s && step which G x s)
+-- Whatever the set x is worked out for, y is worked out for the round of that.
+abbrev pub Turned : List Set → ℕ → Round → ℕ → ℕ → Type 0
+Turned next n round x y = (op : Graph → Stages) → Computes next n op x → Computes next n (λ G. round G (op G)) y
 
--- k rounds, from b.
-abbrev pub rounds : ℕ → Way → Which → Graph → Stages → Stages → Stages
-rounds k way which G a b = iter (round way which G a) k b
+-- A closure makes the round of each set. `post` is what the closure promises.
+abbrev pub Makes : List Set → ℕ → Round → (Set → Set → Type 0) → Type 0
+Makes next n round post = (x y : Set) → post x y → Turned next n round (number x) (number y)
 
--- The same of sets that are numbers: a step from x,
-abbrev pub step_on : Which → ℕ → Graph → Stages
-step_on which x G = step which G (member x)
-
--- the step, asked of the stages `among`,
-abbrev pub ready_on : Which → ℕ → ℕ → Graph → Stages
-ready_on which among x G s = member among s && step which G (member x) s
-
--- a round from x,
-abbrev pub round_on : Way → Which → ℕ → ℕ → Graph → Stages
-round_on way which a x G = round way which G (member a) (member x)
-
--- k rounds from b,
-abbrev pub after_on : ℕ → Way → Which → ℕ → ℕ → Graph → Stages
-after_on k way which a b G = rounds k way which G (member a) (member b)
-
--- and as many rounds as there are stages.
-abbrev pub rounds_on : Way → Which → ℕ → ℕ → Graph → Stages
-rounds_on way which a b G = rounds G.stages way which G (member a) (member b)
+-- x is what k rounds from the set b give, whatever round it is that the closure makes.
+abbrev pub Rounded : (Set → Set → Type 0) → ℕ → ℕ → ℕ → ℕ → Type 0
+Rounded post n k b x = (next : List Set) (step : Round) → Makes next n step post → Computes next n (λ G. iter (step G) k (member b)) x

@@ -1,37 +1,17 @@
 // The six modalities as operations on sets of stages, over a row of successor sets (`sets::row`): `next` holds the successors of the n stages.
 //
-// EX and AX are one pass over the row. The other four are rounds, until one changes nothing; two things tell them apart, which way a round
-// changes the set and which successors it asks for:
-//
-//                     some successor   each successor
-//     rounds shrink   EG               AR
-//     rounds grow     EU               AF
+// EX and AX are one pass over the row. The other four are rounds, until one changes nothing: each says what one round of its own does to a set
+// (`rounds`). EG and AR take stages away, EU and AF add some, and a round asks those stages only that it may take away, or add.
 //
 // Every function is total. A result has no stage at or above n, and it is right for any graph whose successors the row holds (`Computes`).
 #![tactic(auto)]
 
-ghost use Rattle.std.specs.Prelude.{◌≡◌};
-ghost use Rattle.model.specs.Decides.{Decides};
 ghost use Rattle.sets.specs.Number.{number};
-ghost use Rattle.modal.specs.Row.{Inside, Computes, Meeting};
-ghost use Rattle.modal.specs.Rounds.{ready_on, round_on, rounds_on};
-ghost use Rattle.modal.specs.Modal.{ex_of, ex_among, ax_of, eg_of, af_of, ar_of, eu_of};
+ghost use Rattle.modal.specs.Row.{Computes, Meeting};
+ghost use Rattle.modal.specs.Rounds.{Rounded};
+ghost use Rattle.modal.specs.Modal.{ex_of, ex_among, ax_of, ax_among, eg_of, af_of, ar_of, eu_of};
 
 use sets::Set;
-
-// Which of its successors a stage asks to be in a set: some, or each.
-#[derive(Clone, Copy)]
-enum Which {
-    Some,
-    Each,
-}
-
-// What a round does to a set: it takes stages away, or it adds some.
-#[derive(Clone, Copy)]
-enum Way {
-    Shrink,
-    Grow,
-}
 
 // Those of the stages `among` whose successors meet what is wanted.
 fn meeting(next: &[Set], among: Set, wanted: Set) -> Set
@@ -47,67 +27,45 @@ fn meeting(next: &[Set], among: Set, wanted: Set) -> Set
     found
 }
 
-// Those of the stages `among` below n with some, or with each, successor in x. Each is in x where none is outside.
-fn ready(next: &[Set], n: usize, which: Which, among: Set, x: Set) -> Set
-    ensures { Computes next.now n (ready_on which (number among) (number x)) (number result) }
+// EX, asked of the stages `among` only: those of them below n with a successor in x.
+pub fn some_next_among(next: &[Set], n: usize, among: Set, x: Set) -> Set
+    ensures { Computes next.now n (ex_among (number among) (number x)) (number result) }
+{
+    let all = Set::below(n);
+    meeting(next, among.common(all), x.common(all))
+}
+
+// AX, asked so: each successor is in x where none is outside.
+fn each_next_among(next: &[Set], n: usize, among: Set, x: Set) -> Set
+    ensures { Computes next.now n (ax_among (number among) (number x)) (number result) }
 {
     let all = Set::below(n);
     let asked = among.common(all);
-    match which {
-        Which::Some => meeting(next, asked, x.common(all)),
-        Which::Each => {
-            let outside = all.minus(x);
-            asked.minus(meeting(next, asked, outside))
-        }
-    }
+    asked.minus(meeting(next, asked, all.minus(x)))
 }
 
 // EX: the stages below n with a successor in x.
 pub fn some_next(next: &[Set], n: usize, x: Set) -> Set
     ensures { Computes next.now n (ex_of (number x)) (number result) }
 {
-    ready(next, n, Which::Some, Set::below(n), x)
-}
-
-// EX, asked of the stages `among` only: those of them below n with a successor in x.
-pub fn some_next_among(next: &[Set], n: usize, among: Set, x: Set) -> Set
-    ensures { Computes next.now n (ex_among (number among) (number x)) (number result) }
-{
-    ready(next, n, Which::Some, among, x)
+    some_next_among(next, n, Set::below(n), x)
 }
 
 // AX: the stages below n all of whose successors are in x.
 pub fn each_next(next: &[Set], n: usize, x: Set) -> Set
     ensures { Computes next.now n (ax_of (number x)) (number result) }
 {
-    ready(next, n, Which::Each, Set::below(n), x)
+    each_next_among(next, n, Set::below(n), x)
 }
 
-// A round from x. One that shrinks keeps the stages with a, or with their successors in x; one that grows adds those with a and with
-// their successors in x. It looks at those stages only that it may take away, or add.
-fn round(next: &[Set], n: usize, way: Way, which: Which, a: Set, x: Set) -> Set
-    ensures { Inside n (number x) → Computes next.now n (round_on way which (number a) (number x)) (number result) }
+// n rounds from what a set has below n, or as many as it takes until one changes nothing.
+fn rounds<F: Fn(Set) -> Set>(n: usize, start: Set, round: F) -> Set
+    requires { F.IsAlwaysCallable round }
+    ensures { Rounded (F.post round) n n (number start) (number result) }
 {
-    match way {
-        Way::Shrink => {
-            let released = x.common(a);
-            let stays = ready(next, n, which, x.minus(a), x);
-            released.union(stays)
-        }
-        Way::Grow => {
-            let added = ready(next, n, which, a.minus(x), x);
-            x.union(added)
-        }
-    }
-}
-
-// n rounds from what b has below n, or as many as it takes until one changes nothing.
-fn rounds(next: &[Set], n: usize, way: Way, which: Which, a: Set, b: Set) -> Set
-    ensures { Computes next.now n (rounds_on way which (number a) (number b)) (number result) }
-{
-    let mut x = b.common(Set::below(n));
+    let mut x = start.common(Set::below(n));
     for _ in 0..n {
-        let y = round(next, n, way, which, a, x);
+        let y = round(x);
         if x == y {
             return x;
         }
@@ -116,30 +74,36 @@ fn rounds(next: &[Set], n: usize, way: Way, which: Which, a: Set, b: Set) -> Set
     x
 }
 
-// EG a: the stages below n from which some path has a for ever.
+// EG a: the stages below n from which some path has a for ever. A round keeps what has a successor in the set.
 pub fn eg(next: &[Set], n: usize, a: Set) -> Set
     ensures { Computes next.now n (eg_of (number a)) (number result) }
 {
-    rounds(next, n, Way::Shrink, Which::Some, Set::empty(), a)
+    rounds(n, a, |x| some_next_among(next, n, x, x))
 }
 
-// AF a: the stages below n from which every path comes to a.
+// AF a: the stages below n from which every path comes to a. A round adds what has every successor in the set.
 pub fn af(next: &[Set], n: usize, a: Set) -> Set
     ensures { Computes next.now n (af_of (number a)) (number result) }
 {
-    rounds(next, n, Way::Grow, Which::Each, Set::below(n), a)
+    let all = Set::below(n);
+    rounds(n, a, |x| x.union(each_next_among(next, n, all.minus(x), x)))
 }
 
-// AR a b: the stages below n from which every path has b as far as a stage with a, which releases it, and for ever where none comes.
+// AR a b: the stages below n from which every path has b as far as a stage with a, which releases it, and for ever where none comes. A round
+// keeps what has a, or every successor in the set.
 pub fn ar(next: &[Set], n: usize, a: Set, b: Set) -> Set
     ensures { Computes next.now n (ar_of (number a) (number b)) (number result) }
 {
-    rounds(next, n, Way::Shrink, Which::Each, a, b)
+    rounds(
+        n,
+        b,
+        |x| x.common(a).union(each_next_among(next, n, x.minus(a), x)),
+    )
 }
 
-// EU a b: the stages below n from which some path has a until it comes to b.
+// EU a b: the stages below n from which some path has a until it comes to b. A round adds what has a, and a successor in the set.
 pub fn eu(next: &[Set], n: usize, a: Set, b: Set) -> Set
     ensures { Computes next.now n (eu_of (number a) (number b)) (number result) }
 {
-    rounds(next, n, Way::Grow, Which::Some, a, b)
+    rounds(n, b, |x| x.union(some_next_among(next, n, a.minus(x), x)))
 }

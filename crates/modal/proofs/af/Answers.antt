@@ -1,6 +1,8 @@
--- `modal::af` meets its contract: rounds that grow by each successor, with every stage.
-use Rattle.modal.proofs.LawsRounds.{af-computes}
+-- `modal::af` meets its contract.
+use Rattle.std.proofs.Common.{rules}
+use Rattle.logic.specs.Test.{af_round}
+use Rattle.modal.proofs.LawsRounds.{af-turned, all-rounds}
 use Rattle.modal.proofs.af.Goals as goal
 
 pub returns : goal.returns
-returns c = af-computes _ _ c.below.ensures c.rounds.ensures
+returns c = all-rounds _ _ (c.rounds.ensures c.args.next.now af_round (λ x y p. search (rules, af-turned)))

@@ -1,6 +1,8 @@
--- `modal::eg` meets its contract: rounds that shrink by some successor, with no stage that needs none.
-use Rattle.modal.proofs.LawsRounds.{eg-computes}
+-- `modal::eg` meets its contract.
+use Rattle.std.proofs.Common.{rules}
+use Rattle.logic.specs.Test.{eg_round}
+use Rattle.modal.proofs.LawsRounds.{eg-turned, all-rounds}
 use Rattle.modal.proofs.eg.Goals as goal
 
 pub returns : goal.returns
-returns c = eg-computes _ _ c.empty.ensures c.rounds.ensures
+returns c = all-rounds _ _ (c.rounds.ensures c.args.next.now eg_round (λ x y p. search (rules, eg-turned)))

@@ -1,7 +1,6 @@
--- `modal::some_next_among` meets its contract: the stages that are asked, for some successor.
-use Rattle.modal.specs.Rounds.{step}
+-- `modal::some_next_among` meets its contract: the walk over the stages asked.
+use Rattle.modal.proofs.LawsNext.{ready-some}
 use Rattle.modal.proofs.some_next_among.Goals as goal
 
 pub returns : goal.returns
-unfolding step
-returns c = c.ready.ensures
+returns c = ready-some _ _ c.below-all.ensures c.common.ensures c.common-2.ensures c.meeting.ensures
