@@ -1,5 +1,5 @@
 -- The set that a value of the code is, and the set that stands in bytes.
-use Rattle.std.specs.Prelude.{ℕ, ◌+◌, ◌*◌, ◌^◌, ◌<◌, ◌≡◌, List, [], ◌∷◌, ltb, leb, length, take, drop}
+use Rattle.std.specs.Prelude.{ℕ, ◌+◌, ◌*◌, ◌^◌, List, [], ◌∷◌, ltb, leb, length, take, drop}
 use Rattle.model.specs.Formula.{pick}
 use Rattle.sets.specs.declared.Set.{Set}
 
@@ -29,11 +29,6 @@ big_endian_from so_far (b ∷ bs) = big_endian_from (so_far * 256 + b) bs
 
 abbrev pub big_endian : List ℕ → ℕ
 big_endian bs = big_endian_from 0 bs
-
--- r is the number that stands in the n bytes from a place on.
-pub record Held (n : ℕ) (bytes : List ℕ) (at r : ℕ) : Type 0 where
-  pub value : r ≡ big_endian (take n (drop at bytes))
-  pub small : r < 256 ^ n
 
 -- The set stored in the bytes from a place on; empty where they are not all there.
 unfoldable pub stored : List ℕ → ℕ → ℕ

@@ -3,19 +3,19 @@
 //
 // The contracts speak of the set's number (`number`), by the library's operations on numbers; `specs/Member.antt` says what membership
 // is, and `proofs/` has the laws of sets, over any width.
-#![tactic(auto)]
+#![tactic(auto, unfolding(crate::specs::Number::number, crate::specs::Number::single, crate::specs::Row::held, crate::specs::Row::room))]
 
 pub mod row;
 pub mod stored;
 
-ghost use Rattle.std.specs.Prelude.{◌≡◌, ◌+◌, ◌-◌, ◌*◌, ◌^◌, ◌≤◌, ◌<◌, min, length};
+ghost use Rattle.std.specs.Prelude.{◌≡◌, ◌+◌, ◌-◌, ◌*◌, ◌^◌, ◌<◌, min};
 ghost use Rattle.std.specs.Int.Bits.{bit_and, bit_or};
 ghost use Rattle.std.specs.Int.Count.{ones, count_trailing_zeros};
 ghost use Rattle.model.specs.Decides.{Decides};
 ghost use Rattle.sets.specs.Member.{Has, Within, Empty};
 ghost use Rattle.std.specs.Iterator.{at_most};
 ghost use Rattle.sets.specs.Walk.{Next};
-ghost use Rattle.sets.specs.Number.{number, single, Held, stored, width, size};
+ghost use Rattle.sets.specs.Number.{number, single, stored, width, size};
 
 // How many stages a set has room for, and how many bytes a stored one takes.
 pub const WIDTH: usize = 64;
@@ -160,17 +160,14 @@ impl Set {
     pub fn read_nth(bytes: &[u8], start: usize, i: usize) -> Set
         ensures { number result ≡ stored bytes.now (start + size * i) }
     {
-        if bytes.len() < start {
+        let Some(sets) = bytes.get(start..) else {
             return Set::empty();
-        }
-        if (bytes.len() - start) / BYTES <= i {
-            return Set::empty();
-        }
-        let at = start + BYTES * i;
-        let high = four(bytes, at);
-        let low = four(bytes, at + 4);
-        Set {
-            bits: high * 4294967296 + low,
+        };
+        match sets.as_chunks().0.get(i) {
+            Some(piece) => Set {
+                bits: u64::from_be_bytes(*piece),
+            },
+            None => Set::empty(),
         }
     }
 }
@@ -204,22 +201,4 @@ fn power(k: usize) -> u64
     ensures { result ≡ 2 ^ k }
 {
     1u64 << k
-}
-
-// The byte at a place, and the number that stands in four, big-endian. Two such halves compile to one load of eight bytes.
-fn byte(bytes: &[u8], at: usize) -> u64
-    requires { at + 1 ≤ length bytes.now }
-    ensures { Held 1 bytes.now at result }
-{
-    bytes[at] as u64
-}
-
-fn four(bytes: &[u8], at: usize) -> u64
-    requires { at + 4 ≤ length bytes.now }
-    ensures { Held 4 bytes.now at result }
-{
-    byte(bytes, at) * 16777216
-        + byte(bytes, at + 1) * 65536
-        + byte(bytes, at + 2) * 256
-        + byte(bytes, at + 3)
 }

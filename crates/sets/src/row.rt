@@ -10,13 +10,14 @@ use crate::Set;
 pub fn load(row: &[Set], i: usize) -> Set
     ensures { number result ≡ held row.now i }
 {
-    if i < row.len() { row[i] } else { Set::empty() }
+    row.get(i).copied().unwrap_or(Set::empty())
 }
 
 // Set i of the row becomes s; past the end nothing changes.
 pub fn store(row: &mut [Set], i: usize, s: Set)
     ensures { Put row.old i (number s) row.new }
 {
+    // By index: of what `get_mut` lends, a proof learns no element.
     if i < row.len() {
         row[i] = s;
     }
