@@ -27,7 +27,9 @@ use Rattle.format.proofs.RefusalLaws.{number-injective, given-first}
 use Rattle.format.proofs.Decision.{outcome, decided-both, question-decided}
 use Rattle.rules.specs.Shape.{Entry}
 use Rattle.rules.specs.Refusals.{refused, at_end, answer, Given22, Given23, Given24, Given25}
-use Rattle.rules.specs.declared.Progress.{Progress}
+use Rattle.std.specs.Prelude.{Ok, Err}
+use Rattle.rules.specs.Reading.{Progress}
+use Rattle.rules.specs.declared.Stop.{Stop}
 use Rattle.rules.proofs.Refused as rules
 use Rattle.hand.specs.Side.{sided}
 use Rattle.checker.specs.Header.{side_of, header_conditions}
@@ -46,22 +48,22 @@ ended true side end = Ch.Side side
 ended false side end = Ch.Refused R.BytesRemain end
 
 abbrev pub told : List ℕ → Progress → Checked
-told certificate (Progress.At end) = ended (eqb end (length certificate)) (side_of certificate) end
-told certificate Progress.Missing = Ch.Refused R.ByteMissing (length certificate)
-told certificate (Progress.Wrong place) = Ch.Refused R.WrongCode place
-told certificate (Progress.Fails place) = Ch.Refused R.ConditionFails place
+told certificate (Ok end) = ended (eqb end (length certificate)) (side_of certificate) end
+told certificate (Err Stop.Missing) = Ch.Refused R.ByteMissing (length certificate)
+told certificate (Err (Stop.Wrong place)) = Ch.Refused R.WrongCode place
+told certificate (Err (Stop.Fails place)) = Ch.Refused R.ConditionFails place
 
 -- It is what is said of the steps, where their reading ends within the certificate.
-told-steps : (certificate : List ℕ) (p : Progress) → ((end : ℕ) → p ≡ Progress.At end → end ≤ length certificate)
+told-steps : (certificate : List ℕ) (p : Progress) → ((end : ℕ) → p ≡ Ok end → end ≤ length certificate)
     → StepsAnswer certificate p (told certificate p)
-told-steps certificate (Progress.At end) inside = go (eqb end (length certificate)) refl
+told-steps certificate (Ok end) inside = go (eqb end (length certificate)) refl
   where
-    go : (b : Bool) → eqb end (length certificate) ≡ b → StepsAnswer certificate (Progress.At end) (ended b (side_of certificate) end)
-    go true e = (refl, ap Progress.At (eqb-true end (length certificate) e))
+    go : (b : Bool) → eqb end (length certificate) ≡ b → StepsAnswer certificate (Ok end) (ended b (side_of certificate) end)
+    go true e = (refl, ap Ok (eqb-true end (length certificate) e))
     go false e = remain certificate refl (omega (arith, inside end refl, eqb-false end (length certificate) e))
-told-steps certificate Progress.Missing inside = missing certificate refl
-told-steps certificate (Progress.Wrong place) inside = wrong certificate refl
-told-steps certificate (Progress.Fails place) inside = fails certificate refl
+told-steps certificate (Err Stop.Missing) inside = missing certificate refl
+told-steps certificate (Err (Stop.Wrong place)) inside = wrong certificate refl
+told-steps certificate (Err (Stop.Fails place)) inside = fails certificate refl
 
 -- Two refusals with their places are one exactly when their numbers and places are.
 numbered : (j k : Refusal) (q place : ℕ) → (Ch.Refused j q ≡ Ch.Refused k place) ↔ (refused (number j) q ≡ refused (number k) place)
@@ -73,14 +75,14 @@ numbered j k q place = (
 -- The refusals are those of `rules`, with their places.
 told-refused : (certificate : List ℕ) (p : Progress) (k : Refusal) (place : ℕ)
     → (told certificate p ≡ Ch.Refused k place) ↔ (answer certificate p ≡ refused (number k) place)
-told-refused certificate (Progress.At end) k place = go (eqb end (length certificate))
+told-refused certificate (Ok end) k place = go (eqb end (length certificate))
   where
     go : (b : Bool) → (ended b (side_of certificate) end ≡ Ch.Refused k place) ↔ (at_end b end ≡ refused (number k) place)
     go true = (λ e. absurd (let z : ◌≡◌ {A = ℕ} 0 1 = cc in omega arith), λ e. absurd (let z : ◌≡◌ {A = ℕ} 0 1 = cc in omega arith))
     go false = numbered R.BytesRemain k end place
-told-refused certificate Progress.Missing k place = numbered R.ByteMissing k (length certificate) place
-told-refused certificate (Progress.Wrong q) k place = numbered R.WrongCode k q place
-told-refused certificate (Progress.Fails q) k place = numbered R.ConditionFails k q place
+told-refused certificate (Err Stop.Missing) k place = numbered R.ByteMissing k (length certificate) place
+told-refused certificate (Err (Stop.Wrong q)) k place = numbered R.WrongCode k q place
+told-refused certificate (Err (Stop.Fails q)) k place = numbered R.ConditionFails k q place
 
 -- Without its place.
 abbrev pub bare : Checked → Answer

@@ -33,11 +33,11 @@ use Rattle.format.specs.declared.record.Record.{Record}
 use Rattle.format.specs.declared.record.Kind.{Kind}
 use Rattle.format.specs.declared.record.Kind.TheVariants as K
 use Rattle.rules.specs.Table.{row, kind_for}
-use Rattle.rules.specs.Head.{head_of}
-use Rattle.rules.specs.Reading.{Reader}
+use Rattle.rules.specs.Head.{head_of, Head, step_by}
+use Rattle.rules.specs.Reading.{Reader, Progress}
 use Rattle.rules.specs.declared.Rule.{Rule}
-use Rattle.rules.specs.declared.Head.{Head}
-use Rattle.rules.specs.declared.Progress.{Progress}
+use Rattle.std.specs.Prelude.{Ok, Err}
+use Rattle.rules.specs.declared.Unread.{Unread}
 use Rattle.rules.proofs.Heads.{no_code_lem, head-begins, not-false}
 use Rattle.rules.proofs.Rows.{inside}
 use Rattle.rules.proofs.StepLaws.{number-kind}
@@ -187,7 +187,7 @@ pub operand : {image table sets entries : List ℕ} {side e : ℕ} {env : Env} (
 operand {image} {table} {sets} {entries} {side} {e} {env} steps hand {o} {f} {i} o_is f-is low = record {
   hand = record { lent = hand.lent; below = omega (arith, hand.below); inside = hand.inside };
   lower = omega arith;
-  reads = λ {p} at p-is. lower-operand image table steps side e i env (Progress.At at) low
+  reads = λ {p} at p-is. lower-operand image table steps side e i env (Ok at) low
       (p-is ∙ ap (λ (j : ℕ). read_entry image table steps side j env at) (o_is ∙ f-is));
 }
 
@@ -203,7 +203,7 @@ operand_at {image} {table} {sets} {entries} {side} {e} {env} {env'} steps hand {
     inside = bound-inside b (omega arith) hand.inside h;
   };
   lower = omega arith;
-  reads = λ {p} at p-is. lower-operand image table steps side e i (bind (env_of env) x t) (Progress.At at) low
+  reads = λ {p} at p-is. lower-operand image table steps side e i (bind (env_of env) x t) (Ok at) low
       (p-is
       ∙ ap (λ (j : ℕ). read_entry image table steps side j (env_of env') at) (o_is ∙ f-is)
       ∙ ap (λ (c : Env). read_entry image table steps side i c at) (b.here (omega arith) ∙ ap (λ (v : ℕ). bind (env_of env) v t) z-is));
@@ -254,23 +254,23 @@ stage-room w = omega (arith, w.stage, w.hand.lent.small.stages)
 
 pub record Arm (image table : List ℕ) (side : ℕ) (sets entries steps : List ℕ) (e : ℕ) (env : Env) (at : ℕ) (q : Rule) (next : ℕ) : Type 0 where
   pub hand : InHand image table side sets entries e env
-  pub head : head_of steps at (kind_in side (record_at table e)) ≡ Head.Step q next
+  pub head : head_of steps at (kind_in side (record_at table e)) ≡ Ok (step_by q next)
 
 module _ {image table sets entries : List ℕ} (steps : List ℕ) {side e : ℕ} {env : Env} (hand : InHand image table side sets entries e env) {kind : ℕ} (at : ℕ)
     (is : kind ≡ field_at entries 0 e) {h : Head} (h-is : h ≡ head_of steps at kind) where
   head-of : h ≡ head_of steps at (kind_in side (record_at table e))
   head-of = h-is ∙ ap (head_of steps at) (is ∙ kind-is hand)
 
-  pub arm-of : {rule q : Rule} {next : ℕ} → h ≡ Head.Step rule next → rule ≡ q → Arm image table side sets entries steps e env at q next
-  arm-of {next = next} f g = record { hand = hand; head = sym head-of ∙ f ∙ ap (λ (q : Rule). Head.Step q next) g }
+  pub arm-of : {rule q : Rule} {next : ℕ} → h ≡ Ok (step_by rule next) → rule ≡ q → Arm image table side sets entries steps e env at q next
+  arm-of {next = next} f g = record { hand = hand; head = sym head-of ∙ f ∙ ap (λ (q : Rule). Ok (step_by q next)) g }
 
   -- No rule is read.
-  pub head-missing : (set s fault : ℕ) {r : ℕ} → h ≡ Head.Missing → r ≡ length steps + 1
+  pub head-missing : (set s fault : ℕ) {r : ℕ} → h ≡ Err Unread.Missing → r ≡ length steps + 1
       → told (length steps) r fault ≡ read_along image table steps side e env set s at
   head-missing set s fault {r} f r-is =
       told-missing (length steps) r fault r-is ∙ step-missing image table steps side e refl env set s at refl refl head-of f
 
-  pub head-wrong : (set s : ℕ) {r fault : ℕ} → h ≡ Head.Wrong → Past 2 steps at fault r
+  pub head-wrong : (set s : ℕ) {r fault : ℕ} → h ≡ Err Unread.Wrong → Past 2 steps at fault r
       → told (length steps) r fault ≡ read_along image table steps side e env set s at
   head-wrong set s f p =
       told-wrong p ∙ step-wrong image table steps side e refl env set s at refl refl head-of f
@@ -302,7 +302,7 @@ module _ {image table sets entries steps : List ℕ} {side e : ℕ} {env : Env} 
       (λ l. none (no_code_lem steps at (kind_in side (record_at table e)) l ∙ arm.head))
       (side? at (length steps))
     where
-      none : Head.Missing ≡ Head.Step q next → next ≤ length steps
+      none : Err Unread.Missing ≡ Ok (step_by q next) → next ≤ length steps
       none f = let z : ◌≡◌ {A = ℕ} 0 1 = cc in absurd (omega arith)
 
   module _ (set s : ℕ) where
@@ -318,7 +318,7 @@ module _ {image table sets entries steps : List ℕ} {side e : ℕ} {env : Env} 
 
     -- or there are none.
     pub arm-ends : (fault : ℕ) → allows image (record_at table e) env set s q ≡ true
-        → Progress.At next ≡ read_premises_of image table steps side e (record_at table e) env set s q next
+        → Ok next ≡ read_premises_of image table steps side e (record_at table e) env set s q next
         → told (length steps) next fault ≡ read_along image table steps side e env set s at
     arm-ends fault f none = arm-proves f (told_at fault arm-inside ∙ none)
 

@@ -36,17 +36,17 @@ use Rattle.format.proofs.RefusalLaws.{given-first, given-later, clear_both}
 use Rattle.format.proofs.Decision.{stable, length-fits?}
 use Rattle.format.proofs.ReadableLaws as ReadableLaws
 use Rattle.format.proofs.ReadableLaws.{of-setup, of_image, of-table, sizes, readable, ruled, goal-below, start-below}
-use Rattle.rules.specs.declared.Progress.{Progress}
+use Rattle.std.specs.Prelude.{Ok, Err}
+use Rattle.rules.specs.Reading.{Progress}
+use Rattle.rules.specs.declared.Stop.{Stop}
 use Rattle.rules.proofs.Accepted.{ends-inside}
-use Rattle.hand.specs.Environment.{env_of}
+use Rattle.hand.specs.Environment.{env_of, started}
 use Rattle.hand.specs.Side.{sided}
 use Rattle.hand.specs.Setup.{Decoded, Prepared, entry_bytes}
 use Rattle.hand.proofs.SetupLaws.{all-sets}
 use Rattle.checker.specs.Reading.{Small, Lent, InHand, read_entry}
 use Rattle.checker.specs.Header.{side_of, header_conditions, HeaderFits, NamesQuestion}
-use Rattle.hand.specs.Environment.{started}
-use Rattle.checker.specs.Check.{reading, step_conditions, outer_conditions, check_conditions, broke}
-use Rattle.checker.specs.Check.{Accepted, RefusedAt, CheckedAnswer, StepsAnswer}
+use Rattle.checker.specs.Check.{reading, step_conditions, outer_conditions, check_conditions, broke, Accepted, RefusedAt, CheckedAnswer, StepsAnswer}
 use Rattle.checker.specs.declared.answer.Checked.{Checked}
 use Rattle.checker.specs.declared.answer.Checked.TheVariants as Ch
 use Rattle.hand.proofs.EnvironmentLaws.{start-env}
@@ -129,33 +129,24 @@ module _ {image table : List ℕ} {goal start : ℕ} {q : Question} (read : Ques
 -- ---- the steps
 
 module _ (certificate : List ℕ) {p : Progress} where
-  pub missing : p ≡ Progress.Missing → StepsAnswer certificate p (Ch.Refused R.ByteMissing (length certificate))
+  pub missing : p ≡ Err Stop.Missing → StepsAnswer certificate p (Ch.Refused R.ByteMissing (length certificate))
   missing e = (inl (refl, e), rw e)
 
-  pub wrong : {place : ℕ} → p ≡ Progress.Wrong place → StepsAnswer certificate p (Ch.Refused R.WrongCode place)
-  wrong {place} e = (inr (λ f. apart (sym e ∙ f), inl (refl, (place, e))), rw e)
-    where
-      apart : Progress.Wrong place ≡ Progress.Missing → ⊥
-      apart f = let z : ◌≡◌ {A = ℕ} 0 1 = cc in omega arith
+  pub wrong : {place : ℕ} → p ≡ Err (Stop.Wrong place) → StepsAnswer certificate p (Ch.Refused R.WrongCode place)
+  wrong {place} e = (inr (λ f. cc, inl (refl, (place, e))), rw e)
 
-  pub fails : {place : ℕ} → p ≡ Progress.Fails place → StepsAnswer certificate p (Ch.Refused R.ConditionFails place)
-  fails {place} e = (inr (λ f. apart (sym e ∙ f), inr (λ f. apart' (sym e ∙ f.1), inl (refl, (place, e)))), rw e)
-    where
-      apart : Progress.Fails place ≡ Progress.Missing → ⊥
-      apart f = let z : ◌≡◌ {A = ℕ} 0 1 = cc in omega arith
+  pub fails : {place : ℕ} → p ≡ Err (Stop.Fails place) → StepsAnswer certificate p (Ch.Refused R.ConditionFails place)
+  fails {place} e = (inr (λ f. cc, inr (λ f. cc, inl (refl, (place, e)))), rw e)
 
-      apart' : {q : ℕ} → Progress.Fails place ≡ Progress.Wrong q → ⊥
-      apart' f = let z : ◌≡◌ {A = ℕ} 0 1 = cc in omega arith
+  module _ {end : ℕ} (e : p ≡ Ok end) where
+    not-missing : p ≡ Err Stop.Missing → ⊥
+    not-missing f = cc
 
-  module _ {end : ℕ} (e : p ≡ Progress.At end) where
-    not-missing : p ≡ Progress.Missing → ⊥
-    not-missing f = let z : ◌≡◌ {A = ℕ} 0 1 = cc in omega arith
+    not-wrong : (place : ℕ) × (p ≡ Err (Stop.Wrong place)) → ⊥
+    not-wrong g = cc
 
-    not-wrong : (place : ℕ) × (p ≡ Progress.Wrong place) → ⊥
-    not-wrong g = let f = g.1 in let z : ◌≡◌ {A = ℕ} 0 1 = cc in omega arith
-
-    not-fails : (place : ℕ) × (p ≡ Progress.Fails place) → ⊥
-    not-fails g = let f = g.1 in let z : ◌≡◌ {A = ℕ} 0 1 = cc in omega arith
+    not-fails : (place : ℕ) × (p ≡ Err (Stop.Fails place)) → ⊥
+    not-fails g = cc
 
     pub remain : end < length certificate → StepsAnswer certificate p (Ch.Refused R.BytesRemain end)
     remain h = (inr (not-missing, inr (not-wrong, inr (not-fails, inl (refl, (end, e, h))))), rw e)
@@ -164,22 +155,22 @@ module _ (certificate : List ℕ) {p : Progress} where
     pub none-of-steps : end ≡ length certificate → Clear (step_conditions certificate p)
     none-of-steps h = (not-missing, (not-wrong, (not-fails, (λ g. remains g, tt))))
       where
-        remains : (end : ℕ) × (p ≡ Progress.At end) × (end < length certificate) → ⊥
+        remains : (end : ℕ) × (p ≡ Ok end) × (end < length certificate) → ⊥
         remains g = let f = g.1 in let same : end ≡ g.0 = cc in omega (arith, g.2)
 
 -- A reading that ends does so within the certificate, so where no byte remains it ends at its end.
 module _ {image table : List ℕ} {goal start : ℕ} (clear : Clear (question_conditions image table goal start)) (certificate : List ℕ)
     (long : 8 ≤ length certificate) where
-  pub inside-certificate : {end : ℕ} → reading image table certificate goal start ≡ Progress.At end → end ≤ length certificate
+  pub inside-certificate : {end : ℕ} → reading image table certificate goal start ≡ Ok end → end ≤ length certificate
   unfolding reading
   inside-certificate {end} e =
       let image-clear = of_image image table (of-setup image table goal start clear) in
       ends-inside {room = width} {G = graph_of image} (readable image image-clear) (sizes image image-clear).stages
       (sided (side_of certificate) (tree_of image table goal)) (started start) certificate {at = 8} {end = end} long e
 
-  pub whole : {end side : ℕ} → reading image table certificate goal start ≡ Progress.At end → length certificate ≤ end → side ≡ side_of certificate
+  pub whole : {end side : ℕ} → reading image table certificate goal start ≡ Ok end → length certificate ≤ end → side ≡ side_of certificate
       → StepsAnswer certificate (reading image table certificate goal start) (Ch.Side side)
-  whole e h f = (f, e ∙ ap Progress.At (le_antisymm (inside-certificate e) h))
+  whole e h f = (f, e ∙ ap Ok (le_antisymm (inside-certificate e) h))
 
 -- What `formula` answers, from the place after the header with the variables at the start, is the reading of the steps.
 pub reading-is : (image table certificate : List ℕ) (goal start : ℕ) {side : ℕ} {p arm : Progress} → side ≡ side_of certificate

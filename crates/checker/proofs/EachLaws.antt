@@ -22,8 +22,7 @@ use Rattle.sets.proofs.LawsMember.{has-test, empty-zero, side?}
 use Rattle.sets.proofs.LawsLowest.{lowest-le, lowest-lt, lowest-has, has_rest, rest-small}
 use Rattle.sets.proofs.LawsWalk.{Turn}
 use Rattle.format.specs.Image.{stages_of, member, graph_of}
-use Rattle.rules.specs.Reading.{Reader, onward, visit, through}
-use Rattle.rules.specs.declared.Progress.{Progress}
+use Rattle.rules.specs.Reading.{Reader, onward, visit, through, Progress}
 use Rattle.rules.proofs.Faults.{skipped}
 use Rattle.hand.specs.Hand.{SuccessorsOf}
 use Rattle.checker.specs.Reading.{Small}

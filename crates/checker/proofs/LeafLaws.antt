@@ -14,7 +14,8 @@ use Rattle.model.specs.Formula.{Env}
 use Rattle.format.specs.Table.{record_at}
 use Rattle.rules.specs.Table.{kind_for}
 use Rattle.rules.specs.declared.Rule.{Rule}
-use Rattle.rules.specs.declared.Progress.{Progress}
+use Rattle.std.specs.Prelude.{Ok}
+use Rattle.rules.specs.Reading.{Progress}
 use Rattle.hand.specs.Hand.{start_in, atom_in}
 use Rattle.hand.specs.Setup.{field_at, entry_at, atom_from}
 use Rattle.hand.proofs.EntryLaws.{entry-atom}
@@ -26,7 +27,7 @@ use Rattle.checker.proofs.ArmLaws.{Arm, kind-is, entry-is, arm-kind, not-one, ar
 -- The reading along its empty walk is the formula's.
 pub whole : (image table steps : List ℕ) (side e : ℕ) (env : Env) (at : ℕ) {p : Progress}
     → p ≡ read_along image table steps side e env 0 (start_in (record_at table e) env) at → p ≡ read_entry image table steps side e env at
-whole image table steps side e env at p-is = from_start image table steps side e refl env (Progress.At at) refl refl p-is
+whole image table steps side e env at p-is = from_start image table steps side e refl env (Ok at) refl refl p-is
 
 module _ {image table sets entries steps : List ℕ} {side e : ℕ} {env : Env} {at : ℕ} {q : Rule} {next : ℕ}
     (arm : Arm image table side sets entries steps e env at q next) where

@@ -22,9 +22,9 @@ use Rattle.sets.specs.Row.{held}
 use Rattle.sets.proofs.LawsWalk.{Turn}
 use Rattle.format.specs.Image.{member, graph_of}
 use Rattle.format.specs.Table.{record_at}
-use Rattle.rules.specs.Reading.{Reader, onward}
+use Rattle.rules.specs.Reading.{Reader, onward, Progress}
 use Rattle.rules.specs.declared.Rule.{Rule}
-use Rattle.rules.specs.declared.Progress.{Progress}
+use Rattle.std.specs.Prelude.{Ok}
 use Rattle.hand.proofs.SetupLaws.{next-set}
 use Rattle.checker.specs.Reading.{OnWalk, WalkRead, EachRead, told, read_a, read_b, read_along, read_on, read_each_on}
 use Rattle.checker.proofs.ToldLaws.{told_at, told-stays, goes}
@@ -43,7 +43,7 @@ module _ (sets entries steps : List ℕ) (e : ℕ) (env : Env) (s : ℕ) where
 
   pub record AtEach (at left here fault : ℕ) : Type 0 where
     pub is : {image table : List ℕ} {side : ℕ} (w : OnWalk image table side sets entries e env s)
-        → Each w.hand.lent.small s (read_a image table steps side e (record_at table e) env) (Progress.At at) left (told (length steps) here fault)
+        → Each w.hand.lent.small s (read_a image table steps side e (record_at table e) env) (Ok at) left (told (length steps) here fault)
 
   -- What a turn reads.
   pub record AtRead (t at fault r : ℕ) : Type 0 where
@@ -54,18 +54,18 @@ module _ (sets entries steps : List ℕ) (e : ℕ) (env : Env) (s : ℕ) where
   at-start {at} {k} {left} fault inside fits k-is is = record {
     is = λ {image} {table} {side} w.
         rw (told_at {size = length steps} {r = at} fault inside)
-        (start-with w (read_a image table steps side e (record_at table e) env) (Progress.At at) fits k-is is);
+        (start-with w (read_a image table steps side e (record_at table e) env) (Ok at) fits k-is is);
   }
 
   module _ {at left here fault t left' : ℕ} (g : AtEach at left here fault) (turn : Turn left t left') where
     pub at_stage : {image table : List ℕ} {side : ℕ} → OnWalk image table side sets entries e env s → T ((graph_of image).next s t) × (t < width)
     at_stage {image} {table} {side} w =
-        each-stage w.hand.lent.small s (read_a image table steps side e (record_at table e) env) (Progress.At at) (g.is w) turn
+        each-stage w.hand.lent.small s (read_a image table steps side e (record_at table e) env) (Ok at) (g.is w) turn
 
     pub at_next : {r fault' : ℕ} → here ≤ length steps → AtRead t here fault' r → AtEach at left' r fault'
     at_next inside read = record {
       is = λ {image} {table} {side} w.
-          each_next w.hand.lent.small s (read_a image table steps side e (record_at table e) env) (Progress.At at) (g.is w) turn
+          each_next w.hand.lent.small s (read_a image table steps side e (record_at table e) env) (Ok at) (g.is w) turn
           (goes fault (read_a image table steps side e (record_at table e) env t) inside refl (read.is w (at_stage w).0));
     }
 
@@ -73,13 +73,13 @@ module _ (sets entries steps : List ℕ) (e : ℕ) (env : Env) (s : ℕ) where
       → EachRead sets entries steps e env s at fault here
   at-end {at} g none d f = record {
     is = λ {image} {table} {side} w.
-        each-end w.hand.lent.small s (read_a image table steps side e (record_at table e) env) (Progress.At at) (g.is w) none d f;
+        each-end w.hand.lent.small s (read_a image table steps side e (record_at table e) env) (Ok at) (g.is w) none d f;
   }
 
   pub at_stops : {at left here fault : ℕ} → AtEach at left here fault → length steps < here → EachRead sets entries steps e env s at fault here
   at_stops {at} {fault = fault} g past = record {
     is = λ {image} {table} {side} w.
-        each-stops w.hand.lent.small s (read_a image table steps side e (record_at table e) env) (Progress.At at) (g.is w) (told-stays fault past);
+        each-stops w.hand.lent.small s (read_a image table steps side e (record_at table e) env) (Ok at) (g.is w) (told-stays fault past);
   }
 
   -- ---- the walk at each

@@ -24,12 +24,13 @@ use Rattle.format.specs.Table.{kind_of, record_at, term_of, nth, trees, tree_of}
 use Rattle.format.specs.declared.record.Record.{Record}
 use Rattle.format.specs.declared.record.Kind.{Kind}
 use Rattle.format.proofs.TreeLaws.{tree-at}
-use Rattle.rules.specs.Head.{head_of}
+use Rattle.rules.specs.Head.{head_of, Head, step_by}
 use Rattle.rules.specs.Shape.{shape}
-use Rattle.rules.specs.Reading.{Reader, onward, headed, asked, read_walk, read_formula}
+use Rattle.rules.specs.Reading.{Reader, onward, headed, asked, read_walk, read_formula, Progress}
 use Rattle.rules.specs.declared.Rule.{Rule}
-use Rattle.rules.specs.declared.Head.{Head}
-use Rattle.rules.specs.declared.Progress.{Progress}
+use Rattle.std.specs.Prelude.{Ok, Err}
+use Rattle.rules.specs.declared.Unread.{Unread}
+use Rattle.rules.specs.declared.Stop.{Stop}
 use Rattle.hand.specs.Side.{sided, kind_on, number_of}
 use Rattle.hand.specs.Hand.{start_in}
 use Rattle.checker.specs.Reading.{walk_of, allows, read_entry, read_operand, read_along, read_on, read_premises_of}
@@ -39,22 +40,18 @@ use Rattle.checker.proofs.StepLaws.{M, rule-read, by_kind, by-rule, start-kind}
 -- ---- readings in turn
 
 -- From a place that was come to, the reading goes on there.
-pub goes_on : {came : Progress} {at : ℕ} (r : Reader) → came ≡ Progress.At at → onward came r ≡ r at
+pub goes_on : {came : Progress} {at : ℕ} (r : Reader) → came ≡ Ok at → onward came r ≡ r at
 goes_on r e = ap (λ (p : Progress). onward p r) e
 
 -- What reads nothing changes nothing.
-pub nothing : (came : Progress) → came ≡ onward came Progress.At
-nothing (Progress.At at) = refl
-nothing Progress.Missing = refl
-nothing (Progress.Wrong at) = refl
-nothing (Progress.Fails at) = refl
+pub nothing : (came : Progress) → came ≡ onward came Ok
+nothing (Ok at) = refl
+nothing (Err stop) = refl
 
 -- Two readings in turn.
 after_both : (came : Progress) (f g : Reader) → onward (onward came f) g ≡ onward came (λ at. onward (f at) g)
-after_both (Progress.At at) f g = refl
-after_both Progress.Missing f g = refl
-after_both (Progress.Wrong at) f g = refl
-after_both (Progress.Fails at) f g = refl
+after_both (Ok at) f g = refl
+after_both (Err stop) f g = refl
 
 pub in-turn : (came : Progress) {p q : Progress} (f g : Reader) → p ≡ onward came f → q ≡ onward p g → q ≡ onward came (λ at. onward (f at) g)
 in-turn came f g e h = h ∙ ap (λ (p : Progress). onward p g) e ∙ after_both came f g
@@ -110,7 +107,7 @@ module _ (image table bytes : List ℕ) (side e : ℕ) {r : Record} (is : r ≡ 
           )
 
   -- One step is read by its head.
-  module _ (set s : ℕ) {came : Progress} (at : ℕ) (came-is : came ≡ Progress.At at) {k : ℕ} (k-is : k ≡ number_of kind)
+  module _ (set s : ℕ) {came : Progress} (at : ℕ) (came-is : came ≡ Ok at) {k : ℕ} (k-is : k ≡ number_of kind)
       {h : Head} (h-is : h ≡ head_of bytes at k) where
     abbrev again : ℕ → Reader
     again t = read_on image table bytes side e env set s t
@@ -130,21 +127,21 @@ module _ (image table bytes : List ℕ) (side e : ℕ) {r : Record} (is : r ≡ 
         (sym formula-is) (by_kind width (graph_of image) bytes image tree r env kind (width - ones set) (walk_of set) s at)
         ∙ ap (λ (g : Head). headed g at (rule-read width (graph_of image) bytes image tree r env kind again (walk_of set) s at)) (head-is f)
 
-    pub step-missing : h ≡ Head.Missing → Progress.Missing ≡ onward came (read_along image table bytes side e env set s)
+    pub step-missing : h ≡ Err Unread.Missing → Err Stop.Missing ≡ onward came (read_along image table bytes side e env set s)
     step-missing f = sym (by-head-of f)
 
-    pub step-wrong : h ≡ Head.Wrong → Progress.Wrong at ≡ onward came (read_along image table bytes side e env set s)
+    pub step-wrong : h ≡ Err Unread.Wrong → Err (Stop.Wrong at) ≡ onward came (read_along image table bytes side e env set s)
     step-wrong f = sym (by-head-of f)
 
     -- A rule's own condition comes before its premises.
-    module _ {q : Rule} {next : ℕ} (f : h ≡ Head.Step q next) {b : Bool} (b-is : b ≡ allows image r env set s q) where
+    module _ {q : Rule} {next : ℕ} (f : h ≡ Ok (step_by q next)) {b : Bool} (b-is : b ≡ allows image r env set s q) where
       asked_of : onward came (read_along image table bytes side e env set s) ≡ asked b at (read_premises_of image table bytes side e r env set s q next)
       unfolding read_operand
       asked_of =
           by-head-of f ∙ by-rule width (graph_of image) bytes image tree r env kind at (head-is f) again (walk_of set) s
           ∙ ap (λ (b : Bool). asked b at (read_premises_of image table bytes side e r env set s q next)) (sym b-is)
 
-      pub step-fails : b ≡ false → Progress.Fails at ≡ onward came (read_along image table bytes side e env set s)
+      pub step-fails : b ≡ false → Err (Stop.Fails at) ≡ onward came (read_along image table bytes side e env set s)
       step-fails no-b =
           sym (asked_of ∙ ap (λ (b : Bool). asked b at (read_premises_of image table bytes side e r env set s q next)) no-b)
 

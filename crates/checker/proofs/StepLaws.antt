@@ -17,12 +17,12 @@ use Rattle.format.specs.declared.record.Record.{Record}
 use Rattle.format.specs.declared.record.Kind.{Kind}
 use Rattle.format.specs.declared.record.Kind.TheVariants as K
 use Rattle.rules.specs.Table.{row, body, kind_for}
-use Rattle.rules.specs.Head.{head_of}
+use Rattle.rules.specs.Head.{head_of, step_by}
 use Rattle.rules.specs.Shape.{Entry, Shape, shape}
-use Rattle.rules.specs.Reading.{Reader, headed, asked, leads, meets, parts, read_premises, read_rule, read_walk, read_formula}
+use Rattle.rules.specs.Reading.{Reader, headed, asked, leads, meets, parts, read_premises, read_rule, read_walk, read_formula, Progress}
 use Rattle.rules.specs.declared.Rule.{Rule}
-use Rattle.rules.specs.declared.Head.{Head}
-use Rattle.rules.specs.declared.Progress.{Progress}
+use Rattle.std.specs.Prelude.{Ok, Err}
+use Rattle.rules.specs.declared.Stop.{Stop}
 use Rattle.rules.proofs.Heads.{head-begins, not-false}
 use Rattle.rules.proofs.StepLaws.{number-kind}
 use Rattle.hand.specs.Side.{number_of}
@@ -45,7 +45,7 @@ module _ (room : ℕ) (G : Graph) (bytes image : List ℕ) (tree : ℕ → Formu
 
   -- how its entries are read; for false nothing is asked of them
   abbrev pub entries : Bool → (ℕ → Entry) → ℕ → Reader
-  entries true f t = λ at. Progress.Missing
+  entries true f t = λ at. Err Stop.Missing
   entries false f t = read_formula room G bytes (f t).formula (f t).env
 
   abbrev pub rule-read : Kind → (ℕ → Reader) → Walk → ℕ → ℕ → Rule → Reader
@@ -120,7 +120,7 @@ module _ (room : ℕ) (G : Graph) (bytes image : List ℕ) (tree : ℕ → Formu
   at-kind (Rule.EuLater c) again w s at next = both-asked (G.next s c) _ at _
 
   -- A rule that was read for the kind k is for k.
-  pub by-rule : (k : Kind) {q : Rule} (at : ℕ) {next : ℕ} → head_of bytes at (number_of k) ≡ Head.Step q next
+  pub by-rule : (k : Kind) {q : Rule} (at : ℕ) {next : ℕ} → head_of bytes at (number_of k) ≡ Ok (step_by q next)
       → (again : ℕ → Reader) (w : Walk) (s : ℕ) → rule-read k again w s at q next ≡ asked (asks w s q) at (proves again s q next)
   by-rule k {q} at {next} h again w s =
       let for-k : kind_for q ≡ number_of k = (head-begins bytes at (number_of k) h).1 in

@@ -13,17 +13,16 @@ use mathlib.Core.List.{List}
 use lib.ListN.{length}
 use Rattle.model.specs.Formula.{Env}
 use Rattle.format.specs.Table.{record_at}
-use Rattle.rules.specs.Head.{head_of}
+use Rattle.rules.specs.Head.{head_of, Head, step_by}
 use Rattle.rules.specs.Table.{kind_for}
 use Rattle.rules.specs.declared.Rule.{Rule}
-use Rattle.rules.specs.declared.Head.{Head}
-use Rattle.rules.specs.declared.Progress.{Progress}
+use Rattle.std.specs.Prelude.{Ok}
 use Rattle.hand.specs.Setup.{field_at}
 use Rattle.checker.specs.Reading.{OnWalk, Past, WalkRead, told, allows, read_premises_of}
 use Rattle.checker.proofs.ArmLaws.{Arm, arm-of, arm-kind, arm-fails, arm-proves, arm-ends}
 
 module _ {sets entries steps : List ℕ} {e : ℕ} {env : Env} {kind at : ℕ} {h : Head} {rule q : Rule} {next : ℕ} (is : kind ≡ field_at entries 0 e)
-    (h-is : h ≡ head_of steps at kind) (found : h ≡ Head.Step rule next) (named : rule ≡ q) (set s : ℕ) where
+    (h-is : h ≡ head_of steps at kind) (found : h ≡ Ok (step_by rule next)) (named : rule ≡ q) (set s : ℕ) where
   pub refused : {r fault : ℕ}
       → ((image table : List ℕ) (side : ℕ) → OnWalk image table side sets entries e env s → allows image (record_at table e) env set s q ≡ false)
       → Past 3 steps at fault r → WalkRead sets entries steps e env set s at fault r
@@ -46,7 +45,7 @@ module _ {sets entries steps : List ℕ} {e : ℕ} {env : Env} {kind at : ℕ} {
   pub finished : {fault : ℕ}
       → ((image table : List ℕ) (side : ℕ) → OnWalk image table side sets entries e env s
       → (allows image (record_at table e) env set s q ≡ true)
-      × (Progress.At next ≡ read_premises_of image table steps side e (record_at table e) env set s q next))
+      × (Ok next ≡ read_premises_of image table steps side e (record_at table e) env set s q next))
       → WalkRead sets entries steps e env set s at fault next
   finished {fault} f = record {
     is = λ {image} {table} {side} w.

@@ -11,56 +11,57 @@ use mathlib.Core.List.{List}
 use lib.Dec.{eqb}
 use lib.ListN.{length}
 use borrow.Author.Tests.{eq-eqb, ne_eqb, lt-ltb, le-ltb}
-use Rattle.rules.specs.Reading.{Reader, onward}
-use Rattle.rules.specs.declared.Progress.{Progress}
+use Rattle.rules.specs.Reading.{Reader, onward, Progress}
+use Rattle.std.specs.Prelude.{Ok, Err}
+use Rattle.rules.specs.declared.Stop.{Stop}
 use Rattle.checker.specs.Reading.{whether, faulted, told, Past}
 
 -- A place up to the end.
-pub told_at : {size r : ℕ} (fault : ℕ) → r ≤ size → told size r fault ≡ Progress.At r
+pub told_at : {size r : ℕ} (fault : ℕ) → r ≤ size → told size r fault ≡ Ok r
 unfolding told
-told_at {size} {r} fault h = ap (λ (b : Bool). whether b (faulted size r fault) (Progress.At r)) (le-ltb size r h)
+told_at {size} {r} fault h = ap (λ (b : Bool). whether b (faulted size r fault) (Ok r)) (le-ltb size r h)
 
 -- Past it.
 past : {size r : ℕ} (fault : ℕ) → size < r → told size r fault ≡ faulted size r fault
 unfolding told
-past {size} {r} fault h = ap (λ (b : Bool). whether b (faulted size r fault) (Progress.At r)) (lt-ltb size r h)
+past {size} {r} fault h = ap (λ (b : Bool). whether b (faulted size r fault) (Ok r)) (lt-ltb size r h)
 
 -- A byte is missing.
-pub told-missing : (size r fault : ℕ) → r ≡ size + 1 → told size r fault ≡ Progress.Missing
+pub told-missing : (size r fault : ℕ) → r ≡ size + 1 → told size r fault ≡ Err Stop.Missing
 told-missing size r fault e =
     past fault (omega arith)
-    ∙ ap (λ (b : Bool). whether b Progress.Missing (whether (eqb r (size + 2)) (Progress.Wrong fault) (Progress.Fails fault))) (eq-eqb r (size + 1) e)
+    ∙ ap (λ (b : Bool). whether b (Err Stop.Missing) (whether (eqb r (size + 2)) (Err (Stop.Wrong fault)) (Err (Stop.Fails fault)))) (eq-eqb r (size + 1) e)
 
 -- None is, but there is a fault.
 past-missing : (size r fault : ℕ) → size + 1 < r
-    → told size r fault ≡ whether (eqb r (size + 2)) (Progress.Wrong fault) (Progress.Fails fault)
+    → told size r fault ≡ whether (eqb r (size + 2)) (Err (Stop.Wrong fault)) (Err (Stop.Fails fault))
 past-missing size r fault h =
     past fault (omega arith)
-    ∙ ap (λ (b : Bool). whether b Progress.Missing (whether (eqb r (size + 2)) (Progress.Wrong fault) (Progress.Fails fault)))
+    ∙ ap (λ (b : Bool). whether b (Err Stop.Missing) (whether (eqb r (size + 2)) (Err (Stop.Wrong fault)) (Err (Stop.Fails fault))))
     (ne_eqb r (size + 1) (λ e. omega arith))
 
 -- A code is wrong.
-pub told-two : (size r fault : ℕ) → r ≡ size + 2 → told size r fault ≡ Progress.Wrong fault
+pub told-two : (size r fault : ℕ) → r ≡ size + 2 → told size r fault ≡ Err (Stop.Wrong fault)
 told-two size r fault e =
-    past-missing size r fault (omega arith) ∙ ap (λ (b : Bool). whether b (Progress.Wrong fault) (Progress.Fails fault)) (eq-eqb r (size + 2) e)
+    past-missing size r fault (omega arith) ∙ ap (λ (b : Bool). whether b (Err (Stop.Wrong fault)) (Err (Stop.Fails fault))) (eq-eqb r (size + 2) e)
 
 -- A condition fails.
-pub told_more : (size r fault : ℕ) → size + 2 < r → told size r fault ≡ Progress.Fails fault
+pub told_more : (size r fault : ℕ) → size + 2 < r → told size r fault ≡ Err (Stop.Fails fault)
 told_more size r fault h =
     past-missing size r fault (omega arith)
-    ∙ ap (λ (b : Bool). whether b (Progress.Wrong fault) (Progress.Fails fault)) (ne_eqb r (size + 2) (λ e. omega arith))
+    ∙ ap (λ (b : Bool). whether b (Err (Stop.Wrong fault)) (Err (Stop.Fails fault))) (ne_eqb r (size + 2) (λ e. omega arith))
 
 -- The same as the code tells them.
-pub told-wrong : {steps : List ℕ} {at fault r : ℕ} → Past 2 steps at fault r → told (length steps) r fault ≡ Progress.Wrong at
-told-wrong {fault = fault} p = told-two _ _ fault p.is ∙ ap Progress.Wrong p.place
+pub told-wrong : {steps : List ℕ} {at fault r : ℕ} → Past 2 steps at fault r → told (length steps) r fault ≡ Err (Stop.Wrong at)
+told-wrong {fault = fault} p = told-two _ _ fault p.is ∙ ap (λ (p : ℕ). Err (Stop.Wrong p)) p.place
 
-pub told-fails : {steps : List ℕ} {at fault r : ℕ} → Past 3 steps at fault r → told (length steps) r fault ≡ Progress.Fails at
-told-fails {steps} {at} {fault} {r} p = told_more _ _ fault (omega (arith, p.is)) ∙ ap Progress.Fails p.place
+pub told-fails : {steps : List ℕ} {at fault r : ℕ} → Past 3 steps at fault r → told (length steps) r fault ≡ Err (Stop.Fails at)
+told-fails {steps} {at} {fault} {r} p = told_more _ _ fault (omega (arith, p.is)) ∙ ap (λ (p : ℕ). Err (Stop.Fails p)) p.place
 
 -- A fault stays.
 fault-stays : (missing wrong : Bool) (fault : ℕ) (k : Reader)
-    → onward (whether missing Progress.Missing (whether wrong (Progress.Wrong fault) (Progress.Fails fault))) k
-    ≡ whether missing Progress.Missing (whether wrong (Progress.Wrong fault) (Progress.Fails fault))
+    → onward (whether missing (Err Stop.Missing) (whether wrong (Err (Stop.Wrong fault)) (Err (Stop.Fails fault)))) k
+    ≡ whether missing (Err Stop.Missing) (whether wrong (Err (Stop.Wrong fault)) (Err (Stop.Fails fault)))
 fault-stays true wrong fault k = refl
 fault-stays false true fault k = refl
 fault-stays false false fault k = refl

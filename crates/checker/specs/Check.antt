@@ -1,5 +1,5 @@
 -- Document 01, "Refusal numbers", checking: 1 to 13, 20, 21, then the steps in order, 25 last; an accepted check returns the side.
-use Rattle.std.specs.Prelude.{ℕ, ◌+◌, ◌<◌, ◌≡◌, List, [], ◌∷◌, ◌++◌, ltb, length}
+use Rattle.std.specs.Prelude.{ℕ, ◌+◌, ◌<◌, ◌≡◌, List, [], ◌∷◌, ◌++◌, ltb, length, Ok, Err}
 use Rattle.model.specs.Formula.{pick}
 use Rattle.sets.specs.Number.{width}
 use Rattle.format.specs.Refusal.{number, Condition, Given, Clear}
@@ -8,8 +8,8 @@ use Rattle.format.specs.Table.{tree_of}
 use Rattle.format.specs.Question.{question_conditions}
 use Rattle.format.specs.declared.Refusal.{Refusal}
 use Rattle.format.specs.declared.Refusal.TheVariants as R
-use Rattle.rules.specs.Reading.{read_formula}
-use Rattle.rules.specs.declared.Progress.{Progress}
+use Rattle.rules.specs.Reading.{read_formula, Progress}
+use Rattle.rules.specs.declared.Stop.{Stop}
 use Rattle.hand.specs.Environment.{started}
 use Rattle.hand.specs.Side.{sided}
 use Rattle.checker.specs.Header.{side_of, header_conditions}
@@ -26,10 +26,10 @@ reading image table certificate goal start =
 -- The refusals of the steps, by how far their reading came.
 abbrev pub step_conditions : List ℕ → Progress → List Condition
 step_conditions certificate p =
-    record { refusal = R.ByteMissing; holds = p ≡ Progress.Missing }
-    ∷ record { refusal = R.WrongCode; holds = (place : ℕ) × (p ≡ Progress.Wrong place) }
-    ∷ record { refusal = R.ConditionFails; holds = (place : ℕ) × (p ≡ Progress.Fails place) }
-    ∷ record { refusal = R.BytesRemain; holds = (end : ℕ) × (p ≡ Progress.At end) × (end < length certificate) }
+    record { refusal = R.ByteMissing; holds = p ≡ Err Stop.Missing }
+    ∷ record { refusal = R.WrongCode; holds = (place : ℕ) × (p ≡ Err (Stop.Wrong place)) }
+    ∷ record { refusal = R.ConditionFails; holds = (place : ℕ) × (p ≡ Err (Stop.Fails place)) }
+    ∷ record { refusal = R.BytesRemain; holds = (end : ℕ) × (p ≡ Ok end) × (end < length certificate) }
     ∷ []
 
 -- The refusals of a check, in their order: those before the steps, and all.
@@ -42,16 +42,16 @@ check_conditions image table certificate goal start =
 
 -- The place of a fault: in the steps, where their reading broke, which for a missing byte is the certificate's end.
 abbrev pub broke : List ℕ → Progress → ℕ
-broke certificate (Progress.At place) = place
-broke certificate Progress.Missing = length certificate
-broke certificate (Progress.Wrong place) = place
-broke certificate (Progress.Fails place) = place
+broke certificate (Ok place) = place
+broke certificate (Err Stop.Missing) = length certificate
+broke certificate (Err (Stop.Wrong place)) = place
+broke certificate (Err (Stop.Fails place)) = place
 
 -- A certificate is accepted: nothing is refused, and its steps are read to its end.
 pub record Accepted (image table certificate : List ℕ) (goal start side : ℕ) : Type 0 where
   pub clear : Clear (outer_conditions image table certificate goal start)
   pub side_is : side ≡ side_of certificate
-  pub steps : reading image table certificate goal start ≡ Progress.At (length certificate)
+  pub steps : reading image table certificate goal start ≡ Ok (length certificate)
 
 -- A refusal where document 01 gives it.
 abbrev pub CheckAnswer : List ℕ → List ℕ → List ℕ → ℕ → ℕ → Answer → Type 0
@@ -69,7 +69,7 @@ CheckedAnswer image table certificate goal start (Ch.Refused k place) = RefusedA
 
 -- What is said of the steps alone.
 abbrev pub StepsAnswer : List ℕ → Progress → Checked → Type 0
-StepsAnswer certificate p (Ch.Side side) = (side ≡ side_of certificate) × (p ≡ Progress.At (length certificate))
+StepsAnswer certificate p (Ch.Side side) = (side ≡ side_of certificate) × (p ≡ Ok (length certificate))
 StepsAnswer certificate p (Ch.Refused k place) = Given (step_conditions certificate p) k × (place ≡ broke certificate p)
 
 -- The coding of an answer for callers in C: a refusal is its number, an accepted side 128 more than the side.

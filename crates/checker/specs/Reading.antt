@@ -1,6 +1,6 @@
 -- What the readers of steps answer, in the words of the crate `rules` (`read_formula`, `read_walk`, `read_premises`): the same readings, of the
 -- formula that an entry of the table has on a side, with the walk held as a set. Nothing that document 01 states is defined here.
-use Rattle.std.specs.Prelude.{ℕ, suc, ◌+◌, ◌-◌, ◌≤◌, ◌<◌, ◌≡◌, Bool, true, false, ◌&&◌, List, T, eqb, ltb, length}
+use Rattle.std.specs.Prelude.{ℕ, suc, ◌+◌, ◌-◌, ◌≤◌, ◌<◌, ◌≡◌, Bool, true, false, ◌&&◌, List, T, eqb, ltb, length, Ok, Err}
 use Rattle.std.specs.Int.Count.{ones}
 use Rattle.model.specs.Graph.{Readable}
 use Rattle.model.specs.Formula.{Env, bind, pick, value}
@@ -12,9 +12,9 @@ use Rattle.format.specs.Table.{entries_of, record_at, nth, trees, tree_of, term_
 use Rattle.format.specs.declared.record.Record.{Record}
 use Rattle.rules.specs.Kind.{Kind}
 use Rattle.rules.specs.Table.{row, body, Part}
-use Rattle.rules.specs.Reading.{Reader, onward, leads, meets, parts, through, read_premises, read_walk, read_formula}
+use Rattle.rules.specs.Reading.{Reader, onward, leads, meets, parts, through, read_premises, read_walk, read_formula, Progress}
 use Rattle.rules.specs.declared.Rule.{Rule}
-use Rattle.rules.specs.declared.Progress.{Progress}
+use Rattle.rules.specs.declared.Stop.{Stop}
 use Rattle.hand.specs.Side.{sided}
 use Rattle.hand.specs.Setup.{AllSets, most_entries, field_at, entry_at, entry_of}
 use Rattle.hand.specs.Hand.{atom_in}
@@ -134,10 +134,10 @@ whether false p q = q
 
 abbrev pub faulted : ℕ → ℕ → ℕ → Progress
 faulted size r fault =
-    whether (eqb r (size + 1)) Progress.Missing (whether (eqb r (size + 2)) (Progress.Wrong fault) (Progress.Fails fault))
+    whether (eqb r (size + 1)) (Err Stop.Missing) (whether (eqb r (size + 2)) (Err (Stop.Wrong fault)) (Err (Stop.Fails fault)))
 
 unfoldable pub told : ℕ → ℕ → ℕ → Progress
-told size r fault = whether (ltb size r) (faulted size r fault) (Progress.At r)
+told size r fault = whether (ltb size r) (faulted size r fault) (Ok r)
 
 -- A fault is told: so far past the steps' end, and at a place.
 pub record Past (far : ℕ) (steps : List ℕ) (at fault r : ℕ) : Type 0 where

@@ -13,7 +13,7 @@ ghost use Rattle.checker.specs.Reading.{EachRead, FormulaRead, Handed, Led, OnRe
 
 use hand::env::Env;
 use hand::{env, setup};
-use rules::{Head, Rule};
+use rules::{Rule, Step, Unread};
 use sets::Set;
 
 // A code that is not one for the formula in hand, and a condition that fails, at a place.
@@ -116,7 +116,7 @@ fn leaf(
 {
     let kind = setup::field(entries, setup::KIND, e);
     match rules::read_head(steps, at, kind) {
-        Head::Step(_, begun) => {
+        Ok(Step { next: begun, .. }) => {
             if kind == 0 {
                 return begun;
             }
@@ -134,8 +134,8 @@ fn leaf(
                 }
             }
         }
-        Head::Missing => steps.len() + 1,
-        Head::Wrong => wrong(steps, at, fault),
+        Err(Unread::Missing) => steps.len() + 1,
+        Err(Unread::Wrong) => wrong(steps, at, fault),
     }
 }
 
@@ -158,7 +158,7 @@ fn walk(
 {
     let k = index(s);
     match rules::read_head(steps, at, setup::field(entries, setup::KIND, e)) {
-        Head::Step(rule, begun) => {
+        Ok(Step { rule, next: begun }) => {
             let from = match rule {
                 Rule::True => return begun,
                 Rule::Holds => return begun,
@@ -277,8 +277,8 @@ fn walk(
             }
             here
         }
-        Head::Missing => steps.len() + 1,
-        Head::Wrong => wrong(steps, at, fault),
+        Err(Unread::Missing) => steps.len() + 1,
+        Err(Unread::Wrong) => wrong(steps, at, fault),
     }
 }
 

@@ -1,11 +1,8 @@
 // Bytes put into a lent buffer one after the other, or only counted. A place is how many bytes came before; it is counted up to one past the
 // buffer's end and no further, so a place past the end says that there was no room.
 ghost use Rattle.std.specs.Prelude.{◌≡◌, [], ◌∷◌};
-ghost use Rattle.rules.specs.Table.{row};
 ghost use Rattle.checker.specs.Header.{header_of};
 ghost use Rattle.pen.specs.Wrote.{Wrote};
-
-use rules::Rule;
 
 // One byte. Where it is only counted, the buffer stays as it is.
 pub(crate) fn put(out: &mut [u8], writing: bool, at: usize, b: u8) -> usize
@@ -18,31 +15,6 @@ pub(crate) fn put(out: &mut [u8], writing: bool, at: usize, b: u8) -> usize
         out[at] = b;
     }
     at + 1
-}
-
-// A rule's code.
-pub(crate) fn code_of(rule: Rule) -> u8
-    ensures { result ≡ (row rule).code }
-{
-    match rule {
-        Rule::True => 0,
-        Rule::Holds => 1,
-        Rule::HoldsNot => 2,
-        Rule::And => 3,
-        Rule::OrLeft => 4,
-        Rule::OrRight => 5,
-        Rule::Ax => 6,
-        Rule::Ex(_) => 7,
-        Rule::AfNow => 8,
-        Rule::AfLater => 9,
-        Rule::EgOn(_) => 10,
-        Rule::EgMerge => 11,
-        Rule::ArRelease => 12,
-        Rule::ArOn => 13,
-        Rule::ArMerge => 14,
-        Rule::EuNow => 15,
-        Rule::EuLater(_) => 16,
-    }
 }
 
 // The header of a certificate: its mark and version, the side that it proves, and the goal and start that it names.

@@ -14,7 +14,7 @@ ghost use Rattle.checker.specs.Reading.{walk_of};
 ghost use Rattle.pen.specs.Wrote.{Wrote};
 ghost use Rattle.pen.specs.Steps.{entry_steps, af_steps, two_steps, Holding, InHand, AfAt, ArAt, Noted};
 
-use crate::bytes::{code_of, put};
+use crate::bytes::put;
 use format::record::Kind;
 use format::{byte, record};
 use guide::sides;
@@ -42,12 +42,12 @@ pub(crate) fn formula(
 {
     let f = setup::entry_at(entries, e);
     match record::kind_of(f.kind) {
-        Kind::True => put(out, write, at, code_of(Rule::True)),
+        Kind::True => put(out, write, at, Rule::True.code()),
         Kind::False => at,
-        Kind::Is => put(out, write, at, code_of(Rule::Holds)),
-        Kind::IsNot => put(out, write, at, code_of(Rule::HoldsNot)),
+        Kind::Is => put(out, write, at, Rule::Holds.code()),
+        Kind::IsNot => put(out, write, at, Rule::HoldsNot.code()),
         Kind::And => {
-            let on = put(out, write, at, code_of(Rule::And));
+            let on = put(out, write, at, Rule::And.code());
             let a = formula(image, table, next, entries, side, write, f.a, env, out, on);
             formula(image, table, next, entries, side, write, f.b, env, out, a)
         }
@@ -84,10 +84,10 @@ fn or(
     }
     let f = setup::entry_at(entries, e);
     if sides::holds_on(image, table, next, byte(image, 5) as usize, side, f.a, env) {
-        let on = put(out, write, at, code_of(Rule::OrLeft));
+        let on = put(out, write, at, Rule::OrLeft.code());
         return formula(image, table, next, entries, side, write, f.a, env, out, on);
     }
-    let on = put(out, write, at, code_of(Rule::OrRight));
+    let on = put(out, write, at, Rule::OrRight.code());
     formula(image, table, next, entries, side, write, f.b, env, out, on)
 }
 
@@ -113,7 +113,7 @@ fn ax(
     }
     let f = setup::entry_at(entries, e);
     let mut there = sets::row::load(next, env::stage_of(f.t, env) as usize);
-    let mut here = put(out, write, at, code_of(Rule::Ax));
+    let mut here = put(out, write, at, Rule::Ax.code());
     while !sets::is_empty(there) {
         let t = sets::lowest(there) as u8;
         let to = env.bound(f.x, t);
@@ -147,7 +147,7 @@ fn ex(
     let n = byte(image, 5) as usize;
     let s = env::stage_of(f.t, env);
     let c = guide::ex(image, table, next, n, side, f.a, env, f.x, s);
-    let on = put(out, write, at, code_of(Rule::Ex(c)));
+    let on = put(out, write, at, Rule::Ex(c).code());
     let chosen = put(out, write, on, c);
     let to = env.bound(f.x, c);
     formula(
@@ -266,11 +266,11 @@ fn af_step(
 {
     if sets::has(stop, s as usize) {
         let f = setup::entry_at(entries, e);
-        let on = put(out, write, at, code_of(Rule::AfNow));
+        let on = put(out, write, at, Rule::AfNow.code());
         let to = env.bound(f.x, s);
         return formula(image, table, next, entries, side, write, f.a, to, out, on);
     }
-    let mut here = put(out, write, at, code_of(Rule::AfLater));
+    let mut here = put(out, write, at, Rule::AfLater.code());
     let mut there = sets::row::load(next, s as usize);
     while !sets::is_empty(there) {
         let t = sets::lowest(there) as u8;
@@ -325,10 +325,10 @@ fn eg(
     let mut here = at;
     while 0 < left {
         if sets::has(walk, s as usize) {
-            return put(out, write, here, code_of(Rule::EgMerge));
+            return put(out, write, here, Rule::EgMerge.code());
         }
         let c = toward[s as usize];
-        let on = put(out, write, here, code_of(Rule::EgOn(c)));
+        let on = put(out, write, here, Rule::EgOn(c).code());
         let chosen = put(out, write, on, c);
         let to = env.bound(f.x, s);
         here = formula(
@@ -411,17 +411,17 @@ fn ar(
         return at;
     }
     if sets::has(walk, s as usize) {
-        return put(out, write, at, code_of(Rule::ArMerge));
+        return put(out, write, at, Rule::ArMerge.code());
     }
     let f = setup::entry_at(entries, e);
     if sets::has(stop, s as usize) {
-        let on = put(out, write, at, code_of(Rule::ArRelease));
+        let on = put(out, write, at, Rule::ArRelease.code());
         let to = env.bound(f.x, s);
         let a = formula(image, table, next, entries, side, write, f.a, to, out, on);
         let to = env.bound(f.y, s);
         return formula(image, table, next, entries, side, write, f.b, to, out, a);
     }
-    let on = put(out, write, at, code_of(Rule::ArOn));
+    let on = put(out, write, at, Rule::ArOn.code());
     let to = env.bound(f.y, s);
     let mut here = formula(image, table, next, entries, side, write, f.b, to, out, on);
     let longer = sets::with(walk, s as usize);
@@ -490,12 +490,12 @@ fn eu(
     let mut here = at;
     while 0 < left {
         if sets::has(now, s as usize) {
-            let on = put(out, write, here, code_of(Rule::EuNow));
+            let on = put(out, write, here, Rule::EuNow.code());
             let to = env.bound(f.y, s);
             return formula(image, table, next, entries, side, write, f.b, to, out, on);
         }
         let c = toward[s as usize];
-        let on = put(out, write, here, code_of(Rule::EuLater(c)));
+        let on = put(out, write, here, Rule::EuLater(c).code());
         let chosen = put(out, write, on, c);
         let to = env.bound(f.x, s);
         here = formula(

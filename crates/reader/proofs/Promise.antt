@@ -19,10 +19,11 @@ use mathlib.Core.Logic.{◌↔◌}
 use lib.ListN.{length}
 use denote.Ref.{Bor}
 use Rattle.rules.specs.Table.{begin, kind_for}
-use Rattle.rules.specs.Head.{head_of}
+use Rattle.rules.specs.Head.{head_of, Head, step_by}
 use Rattle.rules.specs.Spelled.{Spelled}
 use Rattle.rules.specs.declared.Rule.{Rule}
-use Rattle.rules.specs.declared.Head.{Head}
+use Rattle.std.specs.Prelude.{Ok, Err}
+use Rattle.rules.specs.declared.Unread.{Unread}
 use Rattle.rules.proofs.Heads.{head_step, head-begins}
 use Rattle.rules.proofs.Rows.{inside}
 use Rattle.reader.specs.Place.{place_after, reader_at, found_by, moved_on, Stepped, heads_of}
@@ -39,10 +40,10 @@ pub record Begins (bytes : List ℕ) (at k : ℕ) (r : Rule) (next : ℕ) : Type
   pub kind : kind_for r ≡ k
 
 -- That is when it is read.
-pub head-rule : (bytes : List ℕ) (at k : ℕ) (r : Rule) (next : ℕ) → (head_of bytes at k ≡ Head.Step r next) ↔ Begins bytes at k r next
+pub head-rule : (bytes : List ℕ) (at k : ℕ) (r : Rule) (next : ℕ) → (head_of bytes at k ≡ Ok (step_by r next)) ↔ Begins bytes at k r next
 head-rule bytes at k r next = (
   λ e. let b = head-begins bytes at k e in record { spelled = b.0; kind = b.1 },
-  λ b. subst (λ (j : ℕ). head_of bytes at j ≡ Head.Step r next) b.kind (head_step bytes at r b.spelled),
+  λ b. subst (λ (j : ℕ). head_of bytes at j ≡ Ok (step_by r next)) b.kind (head_step bytes at r b.spelled),
 )
 
 -- ---- one step
@@ -60,13 +61,13 @@ module _ (d : Reader) (k : ℕ) (h : Head) (e : Reader) (p : Stepped d k h e) wh
       (same, ap (λ (f : Reader). f.bytes) p.reader, ap (λ (f : Reader). f.place) p.reader ∙ ap (λ (i : Head). place_after i d.place) same)
 
   -- A rule is found exactly where a step by it begins.
-  pub step-rule : (r : Rule) (next : ℕ) → (h ≡ Head.Step r next) ↔ Begins d.bytes.now d.place k r next
+  pub step-rule : (r : Rule) (next : ℕ) → (h ≡ Ok (step_by r next)) ↔ Begins d.bytes.now d.place k r next
   step-rule r next =
       let is = head-rule d.bytes.now d.place k r next in
       (λ q. is.0 (sym p.head ∙ q), λ b. p.head ∙ is.1 b)
 
   -- The reader then stands where its premises begin; and where there is none, the reader is as it was.
-  pub step_after : ((r : Rule) (next : ℕ) → h ≡ Head.Step r next → e ≡ reader_at d.bytes next) × (h ≡ Head.Missing → e ≡ d) × (h ≡ Head.Wrong → e ≡ d)
+  pub step_after : ((r : Rule) (next : ℕ) → h ≡ Ok (step_by r next) → e ≡ reader_at d.bytes next) × (h ≡ Err Unread.Missing → e ≡ d) × (h ≡ Err Unread.Wrong → e ≡ d)
   step_after =
       (λ r next q. p.reader ∙ ap (moved_on d) q, λ q. p.reader ∙ ap (moved_on d) q, λ q. p.reader ∙ ap (moved_on d) q)
 
@@ -76,11 +77,10 @@ module _ (d : Reader) (k : ℕ) (h : Head) (e : Reader) (p : Stepped d k h e) wh
     where
       within : (i : Head) → i ≡ found_by d k
           → (d.place ≤ place_after i d.place) × (d.place ≤ length d.bytes.now → place_after i d.place ≤ length d.bytes.now)
-      within (Head.Step r next) q =
-          let row = ((head-rule d.bytes.now d.place k r next).0 (sym q)).spelled in
+      within (Ok step) q =
+          let row = ((head-rule d.bytes.now d.place k step.rule step.next).0 (sym q)).spelled in
           (omega (arith, row.long), inside row)
-      within Head.Missing q = (omega arith, λ l. l)
-      within Head.Wrong q = (omega arith, λ l. l)
+      within (Err unread) q = (omega arith, λ l. l)
 
 -- ---- two steps in a row
 
@@ -91,11 +91,11 @@ heads-of-steps s at k l h i e f p q = rw (q.reader, q.head, p.reader, p.head)
 
 -- It has two rules exactly where a step by the first begins at the place, and one by the second where the first one's premises begin.
 pub heads-rules : (bytes : List ℕ) (at k l : ℕ) (x : Heads) → x ≡ heads_of bytes at k l → (q r : Rule) (mid end : ℕ)
-    → (x ≡ record { first = Head.Step q mid; second = Head.Step r end; place = end }) ↔ (Begins bytes at k q mid × Begins bytes mid l r end)
+    → (x ≡ record { first = Ok (step_by q mid); second = Ok (step_by r end); place = end }) ↔ (Begins bytes at k q mid × Begins bytes mid l r end)
 heads-rules bytes at k l x e q r mid end = (
   λ y.
-      let one : head_of bytes at k ≡ Head.Step q mid = ap (λ (z : Heads). z.first) (sym e ∙ y) in
-      let two : head_of bytes (place_after (head_of bytes at k) at) l ≡ Head.Step r end = ap (λ (z : Heads). z.second) (sym e ∙ y) in
+      let one : head_of bytes at k ≡ Ok (step_by q mid) = ap (λ (z : Heads). z.first) (sym e ∙ y) in
+      let two : head_of bytes (place_after (head_of bytes at k) at) l ≡ Ok (step_by r end) = ap (λ (z : Heads). z.second) (sym e ∙ y) in
       ((head-rule bytes at k q mid).0 one, (head-rule bytes mid l r end).0 (rw one at two)),
   λ b. e ∙ rw ((head-rule bytes at k q mid).1 b.0, (head-rule bytes mid l r end).1 b.1),
 )

@@ -1,17 +1,15 @@
 -- Document 01, "The steps of a proof": a reader carries the certificate bytes and its place in them. What it finds at its place is the head of a
 -- step, and it then stands after that head's code and chosen byte; where no step for the formula in hand begins, it stays where it is.
-use Rattle.std.specs.Prelude.{ℕ, ◌≡◌, List}
+use Rattle.std.specs.Prelude.{ℕ, ◌≡◌, List, Ok, Err}
 use Rattle.std.specs.Borrow.{Bor}
-use Rattle.rules.specs.Head.{head_of}
-use Rattle.rules.specs.declared.Head.{Head}
+use Rattle.rules.specs.Head.{Head, head_of}
 use Rattle.reader.specs.declared.Reader.{Reader}
 use Rattle.reader.specs.declared.Heads.{Heads}
 
 -- The place after what was found at a place.
 abbrev pub place_after : Head → ℕ → ℕ
-place_after (Head.Step r next) at = next
-place_after Head.Missing at = at
-place_after Head.Wrong at = at
+place_after (Ok step) at = step.next
+place_after (Err unread) at = at
 
 -- The reader of some bytes that stands at a place.
 abbrev pub reader_at : Bor (List ℕ) → ℕ → Reader

@@ -3,9 +3,9 @@
 #![tactic(auto)]
 
 ghost use Rattle.std.specs.Prelude.{◌≡◌};
-ghost use Rattle.reader.specs.Place.{place_after, reader_at, Stepped, heads_of};
+ghost use Rattle.reader.specs.Place.{reader_at, Stepped, heads_of};
 
-use rules::Head;
+use rules::{Step, Unread};
 
 // The certificate's bytes, or any others, and the place of the next step in them. The place may lie past their end: no step begins there.
 #[derive(Drop)]
@@ -17,20 +17,9 @@ pub struct Reader<'a> {
 // What stands at a place and what stands after it, and the place after both.
 #[derive(Drop)]
 pub struct Heads {
-    pub first: Head,
-    pub second: Head,
+    pub first: Result<Step, Unread>,
+    pub second: Result<Step, Unread>,
     pub place: usize,
-}
-
-// The place after what was found at a place.
-fn place_after(head: Head, at: usize) -> usize
-    ensures { result ≡ place_after head at }
-{
-    match head {
-        Head::Step(_, next) => next,
-        Head::Missing => at,
-        Head::Wrong => at,
-    }
 }
 
 impl<'a> Reader<'a> {
@@ -42,20 +31,20 @@ impl<'a> Reader<'a> {
     }
 
     // Where the reader stands.
-    pub fn place(self) -> usize
-        ensures { result ≡ self.entry.place }
+    pub fn place(&self) -> usize
+        ensures { result ≡ self.now.place }
     {
         self.place
     }
 
-    // The head of the step at the reader's place, for a formula of a kind, given by its number. The reader then stands after it; where no step for
+    // The step at the reader's place, for a formula of a kind, given by its number. The reader then stands after it; where no step for
     // the formula in hand begins, it stays, and another kind can be tried there. The bytes that it holds are the same.
-    pub fn step(&mut self, kind: u8) -> Head
+    pub fn step(&mut self, kind: u8) -> Result<Step, Unread>
         ensures { Stepped self.old kind result self.new }
     {
-        let head = rules::read_head(self.bytes, self.place, kind);
-        self.place = place_after(head, self.place);
-        head
+        let step = rules::read_head(self.bytes, self.place, kind)?;
+        self.place = step.next;
+        Ok(step)
     }
 }
 
@@ -65,11 +54,11 @@ pub fn read_heads(bytes: &[u8], at: usize, first: u8, second: u8) -> Heads
     ensures { result ≡ heads_of bytes.now at first second }
 {
     let mut reader = Reader::new(bytes, at);
-    let one = reader.step(first);
-    let two = reader.step(second);
+    let first = reader.step(first);
+    let second = reader.step(second);
     Heads {
-        first: one,
-        second: two,
+        first,
+        second,
         place: reader.place(),
     }
 }

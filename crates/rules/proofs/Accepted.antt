@@ -24,7 +24,7 @@ use Rattle.rules.specs.Kind.{Kind}
 use Rattle.rules.specs.Spelled.{Spelled}
 use Rattle.rules.specs.Steps.{encode}
 use Rattle.rules.specs.Reading.{read_formula, no_entry}
-use Rattle.rules.specs.declared.Progress.{Progress}
+use Rattle.std.specs.Prelude.{Ok}
 use Rattle.rules.proofs.Rows.{inside, to_the_end, after}
 use Rattle.rules.proofs.Faithful.{Faithful, of_none}
 use Rattle.rules.proofs.StepLaws.{walk-law}
@@ -32,7 +32,7 @@ use Rattle.rules.proofs.StepLaws.{walk-law}
 -- Some steps after a header are accepted as those of a formula, with nothing remaining.
 abbrev pub Accepted : ℕ → Graph → List ℕ → Formula → Env → Type 0
 Accepted room G header f e =
-    (steps : List ℕ) × (read_formula room G (header ++ steps) f e (length header) ≡ Progress.At (length (header ++ steps)))
+    (steps : List ℕ) × (read_formula room G (header ++ steps) f e (length header) ≡ Ok (length (header ++ steps)))
 
 module _ {room : ℕ} {G : Graph} (R : Readable G) (small : G.stages ≤ room) where
   -- A walk starts with fuel for every stage.
@@ -69,16 +69,16 @@ module _ {room : ℕ} {G : Graph} (R : Readable G) (small : G.stages ≤ room) w
   module _ (f : Formula) (e : Env) where
     -- ACCEPTANCE. A reading from a place comes to an end exactly where the steps of a derivation, from that place, end.
     pub read-to-end : (bytes : List ℕ) (at end : ℕ)
-        → (read_formula room G bytes f e at ≡ Progress.At end) ↔ ((d : Derived G f e) × Spelled bytes (encode G f e d) at end)
+        → (read_formula room G bytes f e at ≡ Ok end) ↔ ((d : Derived G f e) × Spelled bytes (encode G f e d) at end)
     read-to-end bytes at end = ((formula-law bytes f e).proves, λ d. (formula-law bytes f e).accepts d.0 d.1)
 
     -- Where it began within the bytes, it ends within them.
-    pub ends-inside : (bytes : List ℕ) {at end : ℕ} → at ≤ length bytes → read_formula room G bytes f e at ≡ Progress.At end → end ≤ length bytes
+    pub ends-inside : (bytes : List ℕ) {at end : ℕ} → at ≤ length bytes → read_formula room G bytes f e at ≡ Ok end → end ≤ length bytes
     ends-inside bytes {at} {end} h r = inside ((read-to-end bytes at end).0 r).1 h
 
     -- With nothing remaining: the bytes from a place on, for a certificate 8, are accepted exactly when they are the steps of a derivation.
     pub certificate : (bytes : List ℕ) (at : ℕ) → at ≤ length bytes
-        → (read_formula room G bytes f e at ≡ Progress.At (length bytes)) ↔ ((d : Derived G f e) × (drop at bytes ≡ encode G f e d))
+        → (read_formula room G bytes f e at ≡ Ok (length bytes)) ↔ ((d : Derived G f e) × (drop at bytes ≡ encode G f e d))
     certificate bytes at h = (
       λ r. let d = (read-to-end bytes at (length bytes)).0 r in (d.0, (to_the_end h).0 d.1),
       λ d. (read-to-end bytes at (length bytes)).1 (d.0, (to_the_end h).1 d.1),

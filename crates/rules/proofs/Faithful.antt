@@ -14,20 +14,21 @@ use lib.Dec.{T}
 use Rattle.logic.proofs.Booleans.{equal?, differ}
 use Rattle.rules.specs.Spelled.{Spelled}
 use Rattle.rules.specs.Steps.{if_next, ascending}
-use Rattle.rules.specs.Reading.{Reader, onward, visit, through}
-use Rattle.rules.specs.declared.Progress.{Progress}
+use Rattle.rules.specs.Reading.{Reader, onward, visit, through, Progress}
+use Rattle.std.specs.Prelude.{Ok, Err}
+use Rattle.rules.specs.declared.Stop.{Stop}
 use Rattle.rules.proofs.Rows.{empty-row, empty-at, join, split}
 
 -- The reader `read` reads the steps of what derives D.
 pub record Faithful (bytes : List ℕ) (read : Reader) (D : Type 0) (steps : D → List ℕ) : Type 0 where
   -- Where the steps of a derivation stand, it reads them to their end.
-  pub accepts : (d : D) {at end : ℕ} → Spelled bytes (steps d) at end → read at ≡ Progress.At end
+  pub accepts : (d : D) {at end : ℕ} → Spelled bytes (steps d) at end → read at ≡ Ok end
   -- What it reads to an end are the steps of a derivation.
-  pub proves : {at end : ℕ} → read at ≡ Progress.At end → (d : D) × Spelled bytes (steps d) at end
+  pub proves : {at end : ℕ} → read at ≡ Ok end → (d : D) × Spelled bytes (steps d) at end
   -- Derivations whose steps stand at one place are equal.
   pub unique : (d d' : D) {at end end' : ℕ} → Spelled bytes (steps d) at end → Spelled bytes (steps d') at end' → d ≡ d'
 
-same_place : {r : Progress} {p q : ℕ} → r ≡ Progress.At p → r ≡ Progress.At q → p ≡ q
+same_place : {r : Progress} {p q : ℕ} → r ≡ Ok p → r ≡ Ok q → p ≡ q
 same_place e f = cc
 
 module _ {bytes : List ℕ} {read : Reader} {D : Type 0} {steps : D → List ℕ} (law : Faithful bytes read D steps) where
@@ -36,36 +37,34 @@ module _ {bytes : List ℕ} {read : Reader} {D : Type 0} {steps : D → List ℕ
   one_end d d' s s' = same_place (law.accepts d s) (law.accepts d' s')
 
 -- Of nothing there is no derivation, and nothing is read.
-pub of_none : {bytes : List ℕ} → Faithful bytes (λ at. Progress.Missing) ⊥ (λ d. [])
+pub of_none : {bytes : List ℕ} → Faithful bytes (λ at. Err Stop.Missing) ⊥ (λ d. [])
 of_none = record { accepts = λ d s. absurd d; proves = λ e. absurd (never e); unique = λ d d' s s'. absurd d }
   where
-    never : {end : ℕ} → Progress.Missing ≡ Progress.At end → ⊥
+    never : {end : ℕ} → Err Stop.Missing ≡ Ok end → ⊥
     never e = let z : ◌≡◌ {A = ℕ} 0 1 = cc in omega arith
 
 -- No steps.
-pub at_once : {bytes : List ℕ} → Faithful bytes Progress.At (Unit {0}) (λ d. [])
+pub at_once : {bytes : List ℕ} → Faithful bytes Ok (Unit {0}) (λ d. [])
 at_once {bytes} = record {
-  accepts = λ d s. ap Progress.At (empty-at s);
-  proves = λ {at} e. (tt, subst (λ (m : ℕ). Spelled bytes [] at m) (same_place {r = Progress.At at} refl e) (empty-row at));
+  accepts = λ d s. ap Ok (empty-at s);
+  proves = λ {at} e. (tt, subst (λ (m : ℕ). Spelled bytes [] at m) (same_place {r = Ok at} refl e) (empty-row at));
   unique = λ d d' s s'. refl;
 }
 
 -- Where a reading of two things in turn ends, the first ended and the second went on from there.
-pub onward-at : (r : Progress) (k : Reader) {end : ℕ} → onward r k ≡ Progress.At end → (mid : ℕ) × (r ≡ Progress.At mid) × (k mid ≡ Progress.At end)
-onward-at (Progress.At p) k e = (p, refl, e)
-onward-at Progress.Missing k e = absurd (let z : ◌≡◌ {A = ℕ} 0 1 = cc in omega arith)
-onward-at (Progress.Wrong p) k e = absurd (let z : ◌≡◌ {A = ℕ} 0 1 = cc in omega arith)
-onward-at (Progress.Fails p) k e = absurd (let z : ◌≡◌ {A = ℕ} 0 1 = cc in omega arith)
+pub onward-at : (r : Progress) (k : Reader) {end : ℕ} → onward r k ≡ Ok end → (mid : ℕ) × (r ≡ Ok mid) × (k mid ≡ Ok end)
+onward-at (Ok p) k e = (p, refl, e)
+onward-at (Err stop) k e = absurd (let z : ◌≡◌ {A = ℕ} 0 1 = cc in omega arith)
 
 -- Two things in turn.
 module _ {bytes : List ℕ} {r r' : Reader} {D D' : Type 0} {x : D → List ℕ} {x' : D' → List ℕ} where
   pub in-turn : Faithful bytes r D x → Faithful bytes r' D' x' → Faithful bytes (λ at. onward (r at) r') (D × D') (λ d. x d.0 ++ x' d.1)
   in-turn law law' = record { accepts = accepts; proves = proves; unique = unique }
     where
-      accepts : (d : D × D') {at end : ℕ} → Spelled bytes (x d.0 ++ x' d.1) at end → onward (r at) r' ≡ Progress.At end
+      accepts : (d : D × D') {at end : ℕ} → Spelled bytes (x d.0 ++ x' d.1) at end → onward (r at) r' ≡ Ok end
       accepts d s = let m = split (x d.0) s in rw (law.accepts d.0 m.1) (law'.accepts d.1 m.2)
 
-      proves : {at end : ℕ} → onward (r at) r' ≡ Progress.At end → (d : D × D') × Spelled bytes (x d.0 ++ x' d.1) at end
+      proves : {at end : ℕ} → onward (r at) r' ≡ Ok end → (d : D × D') × Spelled bytes (x d.0 ++ x' d.1) at end
       proves {at} e =
           let m = onward-at (r at) r' e in
           let p = law.proves m.1 in
@@ -113,46 +112,46 @@ module _ {bytes : List ℕ} (n : ℕ) (next : ℕ → Bool) (below : (t : ℕ) �
   abbrev up_to : ℕ → AtEach → List ℕ
   up_to m k = ascending m next (λ t u. x t (k t u))
 
-  each-accepts : (m : ℕ) (k : AtEach) {at end : ℕ} → Spelled bytes (up_to m k) at end → through m next r at ≡ Progress.At end
-  each-accepts zero k s = ap Progress.At (empty-at s)
+  each-accepts : (m : ℕ) (k : AtEach) {at end : ℕ} → Spelled bytes (up_to m k) at end → through m next r at ≡ Ok end
+  each-accepts zero k s = ap Ok (empty-at s)
   each-accepts (suc m) k s =
       let h = split (up_to m k) s in rw (each-accepts m k h.1) ((at_next (next m) (law m)).accepts (k m) h.2)
 
   -- Where the reading came before a stage below m, and from there.
-  each-stop : (m at : ℕ) {end : ℕ} → through m next r at ≡ Progress.At end → (t : ℕ) → t < m
-      → (p : ℕ) × (q : ℕ) × (through t next r at ≡ Progress.At p) × (visit (next t) (r t) p ≡ Progress.At q)
+  each-stop : (m at : ℕ) {end : ℕ} → through m next r at ≡ Ok end → (t : ℕ) → t < m
+      → (p : ℕ) × (q : ℕ) × (through t next r at ≡ Ok p) × (visit (next t) (r t) p ≡ Ok q)
   each-stop zero at e t h = absurd (omega arith)
   each-stop (suc m) at {end} e t h =
       let k = onward-at (through m next r at) (visit (next m) (r m)) e in
       ⊎_elim (λ f. rw f (k.0, end, k.1, k.2)) (λ i. each-stop m at k.1 t i) (last h)
 
-  each-proves : {at end : ℕ} → through n next r at ≡ Progress.At end → (k : AtEach) × Spelled bytes (up_to n k) at end
+  each-proves : {at end : ℕ} → through n next r at ≡ Ok end → (k : AtEach) × Spelled bytes (up_to n k) at end
   each-proves {at} {end} e = (k, rows n e)
     where
       piece : (t : ℕ) (u : T (next t))
-          → (p : ℕ) × (q : ℕ) × (through t next r at ≡ Progress.At p) × (r t p ≡ Progress.At q) × (d : D t) × Spelled bytes (x t d) p q
+          → (p : ℕ) × (q : ℕ) × (through t next r at ≡ Ok p) × (r t p ≡ Ok q) × (d : D t) × Spelled bytes (x t d) p q
       piece t u =
           let h = each-stop n at e t (below t u) in
-          let f : r t h.0 ≡ Progress.At h.1 = sym (visited (next t) (r t) u) ∙ h.3 in
+          let f : r t h.0 ≡ Ok h.1 = sym (visited (next t) (r t) u) ∙ h.3 in
           let d = (law t u).proves f in
           (h.0, h.1, h.2, f, d.0, d.1)
 
       k : AtEach
       k t u = (piece t u).4
 
-      here : (t : ℕ) {mid p : ℕ} → through t next r at ≡ Progress.At mid → (u : T (next t)) → r t mid ≡ Progress.At p → Spelled bytes (x t (k t u)) mid p
+      here : (t : ℕ) {mid p : ℕ} → through t next r at ≡ Ok mid → (u : T (next t)) → r t mid ≡ Ok p → Spelled bytes (x t (k t u)) mid p
       here t {mid} {p} f u g =
           let h = piece t u in
           let e₀ : h.0 ≡ mid = same_place h.2 f in
           let e₁ : h.1 ≡ p = same_place h.3 (rw e₀ g) in
           subst (λ (q : ℕ). Spelled bytes (x t (k t u)) mid q) e₁ (subst (λ (q : ℕ). Spelled bytes (x t (k t u)) q h.1) e₀ h.5)
 
-      row : (b : Bool) (f : T b → List ℕ) (q : Reader) {mid p : ℕ} → visit b q mid ≡ Progress.At p
-          → ((u : T b) → q mid ≡ Progress.At p → Spelled bytes (f u) mid p) → Spelled bytes (if_next b f) mid p
+      row : (b : Bool) (f : T b → List ℕ) (q : Reader) {mid p : ℕ} → visit b q mid ≡ Ok p
+          → ((u : T b) → q mid ≡ Ok p → Spelled bytes (f u) mid p) → Spelled bytes (if_next b f) mid p
       row true f q e h = h tt e
       row false f q e h = (at_once.proves e).1
 
-      rows : (m : ℕ) {p : ℕ} → through m next r at ≡ Progress.At p → Spelled bytes (up_to m k) at p
+      rows : (m : ℕ) {p : ℕ} → through m next r at ≡ Ok p → Spelled bytes (up_to m k) at p
       rows zero f = (at_once.proves f).1
       rows (suc m) f =
           let h = onward-at (through m next r at) (visit (next m) (r m)) f in

@@ -14,48 +14,40 @@ use mathlib.Core.Logic.{◌⊎◌, inl, inr, ⊎_elim}
 use lib.Dec.{T}
 use borrow.Author.Tests.{lt-ltb, le-ltb}
 use Rattle.rules.specs.Premises.{earlier}
-use Rattle.rules.specs.Reading.{Reader, onward, visit, through}
-use Rattle.rules.specs.declared.Progress.{Progress}
+use Rattle.rules.specs.Reading.{Reader, onward, visit, through, Progress}
+use Rattle.std.specs.Prelude.{Ok, Err}
 use Rattle.rules.proofs.Faithful.{last, visited}
 
 -- An answer that is not a place.
 abbrev pub IsFault : Progress → Type 0
-IsFault (Progress.At p) = ⊥
-IsFault Progress.Missing = Unit {0}
-IsFault (Progress.Wrong p) = Unit {0}
-IsFault (Progress.Fails p) = Unit {0}
+IsFault (Ok p) = ⊥
+IsFault (Err stop) = Unit {0}
 
 -- A fault stays.
 pub fault-stays : (r : Progress) (k : Reader) → IsFault r → onward r k ≡ r
-fault-stays (Progress.At p) k u = absurd u
-fault-stays Progress.Missing k u = refl
-fault-stays (Progress.Wrong p) k u = refl
-fault-stays (Progress.Fails p) k u = refl
+fault-stays (Ok p) k u = absurd u
+fault-stays (Err stop) k u = refl
 
 -- No place is a fault.
-pub no-fault : {p : ℕ} {r : Progress} → Progress.At p ≡ r → IsFault r → ⊥
+pub no-fault : {p : ℕ} {r : Progress} → Ok p ≡ r → IsFault r → ⊥
 no-fault e u = subst IsFault (sym e) u
 
 -- Where two things read in turn break, the first broke, or it ended and the second broke.
 pub in-first-or-second : (r : Progress) (k : Reader) {v : Progress} → onward r k ≡ v → IsFault v
-    → (r ≡ v) ⊎ ((m : ℕ) × (r ≡ Progress.At m) × (k m ≡ v))
-in-first-or-second (Progress.At p) k e u = inr (p, refl, e)
-in-first-or-second Progress.Missing k e u = inl e
-in-first-or-second (Progress.Wrong p) k e u = inl e
-in-first-or-second (Progress.Fails p) k e u = inl e
+    → (r ≡ v) ⊎ ((m : ℕ) × (r ≡ Ok m) × (k m ≡ v))
+in-first-or-second (Ok p) k e u = inr (p, refl, e)
+in-first-or-second (Err stop) k e u = inl e
 
 -- To go on with nothing changes nothing.
-onward-at : (p : Progress) → onward p Progress.At ≡ p
-onward-at (Progress.At p) = refl
-onward-at Progress.Missing = refl
-onward-at (Progress.Wrong p) = refl
-onward-at (Progress.Fails p) = refl
+onward-at : (p : Progress) → onward p Ok ≡ p
+onward-at (Ok p) = refl
+onward-at (Err stop) = refl
 
 -- A thing at each successor.
 module _ (next : ℕ → Bool) (r : ℕ → Reader) (at : ℕ) where
   -- A reading at each successor below n that broke at one, those below it being read to an end.
   abbrev pub Some : ℕ → Progress → Type 0
-  Some n v = (t : ℕ) × T (next t) × (t < n) × (m : ℕ) × (through t next r at ≡ Progress.At m) × (r t m ≡ v)
+  Some n v = (t : ℕ) × T (next t) × (t < n) × (m : ℕ) × (through t next r at ≡ Ok m) × (r t m ≡ v)
 
   taken : (b : Bool) (q : Reader) {m : ℕ} {v : Progress} → visit b q m ≡ v → IsFault v → T b × (q m ≡ v)
   taken true q f u = (tt, f)

@@ -23,14 +23,14 @@ use Rattle.logic.specs.Test.{outside}
 use Rattle.logic.proofs.Walks.{fewer-off}
 use Rattle.rules.specs.Kind.{Kind, number}
 use Rattle.rules.specs.Table.{row, body, begin, some, kind_for, Part}
-use Rattle.rules.specs.Head.{head_of}
 use Rattle.rules.specs.Spelled.{Spelled}
 use Rattle.rules.specs.Shape.{Entry}
-use Rattle.rules.specs.Reading.{Reader, headed, asked, parts, leads, meets, read_premises, read_rule, read_step, read_walk, read_formula}
+use Rattle.rules.specs.Reading.{Reader, headed, asked, parts, leads, meets, read_premises, read_rule, read_step, read_walk, read_formula, Progress}
 use Rattle.rules.specs.Refusals.{Hand, shape_of, at_start, part_at, DerivedEntry, entry_steps, Reaches, Stands, Comes, now, later, Fault}
 use Rattle.rules.specs.declared.Rule.{Rule}
-use Rattle.rules.specs.declared.Head.{Head}
-use Rattle.rules.specs.declared.Progress.{Progress}
+use Rattle.std.specs.Prelude.{Ok, Err}
+use Rattle.rules.specs.Head.{Head, head_of}
+use Rattle.rules.specs.declared.Stop.{Stop}
 use Rattle.rules.proofs.Heads.{Found, no_code, no_choice, not_for, begun, found, head-begins, not-false, same_takes}
 use Rattle.rules.proofs.Rows.{first_byte}
 use Rattle.rules.proofs.Faithful.{Faithful}
@@ -94,7 +94,7 @@ module _ {room : ℕ} {G : Graph} (R : Readable G) (small : G.stages ≤ room) (
       let h = at_start G f at in ap (λ (k : ℕ → Walk → ℕ → Reader). k (suc room) h.walk h.stage at) (by_shape f.formula f.env at)
 
   -- A reading that comes to an end began at a byte.
-  pub began : (f : Entry) (at : ℕ) {end : ℕ} → read_entry f at ≡ Progress.At end → at < length bytes
+  pub began : (f : Entry) (at : ℕ) {end : ℕ} → read_entry f at ≡ Ok end → at < length bytes
   began f at e =
       let k = number (shape_of G (at_start G f at)).kind in
       let h = headed-at (head_of bytes at k) at _ (sym (start-shape f at) ∙ e) in
@@ -131,7 +131,7 @@ module _ {room : ℕ} {G : Graph} (R : Readable G) (small : G.stages ≤ room) (
   -- The rule r begins at the place and is for the formula in hand: it stands there and its premises are read, or its own condition fails.
   conditions : (h : Hand) (n : ℕ) (r : Rule) (next : ℕ) → Spelled bytes (begin r) h.place next → (row r).kind ≡ (shape_of G h).kind
       → (Stands G bytes h r next × (reads h (suc n) ≡ read_premises G (of h n) h.stage (body r).premises next))
-      ⊎ ((Stands G bytes h r next → ⊥) × (reads h (suc n) ≡ Progress.Fails h.place))
+      ⊎ ((Stands G bytes h r next → ⊥) × (reads h (suc n) ≡ Err (Stop.Fails h.place)))
   conditions h n r next b k =
       ⊎_elim (λ o. ⊎_elim (λ c. inl (record { begins = b; serves = k; successor = o; condition = c }, head ∙ first o ∙ asked-true M at rest c))
       (λ c. inr (λ st. (T_not M).0 c st.condition, head ∙ first o ∙ asked-false M at rest c)) (decide M))
@@ -239,39 +239,39 @@ module _ {room : ℕ} {G : Graph} (R : Readable G) (small : G.stages ≤ room) (
 
   -- A formula in hand that is at fault so is read so.
   fault-read : (v : Progress) (h : Hand) → Fault G bytes h v → (n : ℕ) → reads h (suc n) ≡ v
-  fault-read (Progress.At p) h t n = absurd t
-  fault-read Progress.Missing h (inl l) n = go (found bytes h.place (number (shape_of G h).kind)) _
+  fault-read (Ok p) h t n = absurd t
+  fault-read (Err Stop.Missing) h (inl l) n = go (found bytes h.place (number (shape_of G h).kind)) _
     where
-      go : {d : Head} → Found bytes h.place (number (shape_of G h).kind) d → (k : Rule → Reader) → headed d h.place k ≡ Progress.Missing
+      go : {d : Head} → Found bytes h.place (number (shape_of G h).kind) d → (k : Rule → Reader) → headed d h.place k ≡ Err Stop.Missing
       go (no_code i) k = refl
       go (no_choice r i c q t m) k = refl
       go (not_for i c) k = absurd (omega arith)
       go (begun r next b q) k = absurd (omega (arith, (first_byte b).0))
-  fault-read Progress.Missing h (inr m) n = go (found bytes h.place (number (shape_of G h).kind)) _
+  fault-read (Err Stop.Missing) h (inr m) n = go (found bytes h.place (number (shape_of G h).kind)) _
     where
       -- a chosen byte that is missing does not stand there
       absent : (l : List ℕ) {next : ℕ} → some l ≡ true → Spelled bytes l (h.place + 1) next → ⊥
       absent [] e b = let z : ◌≡◌ {A = ℕ} 0 1 = cc in omega arith
       absent (c ∷ cs) e b = omega (arith, (first_byte b).0, m.3)
 
-      go : {d : Head} → Found bytes h.place (number (shape_of G h).kind) d → (k : Rule → Reader) → headed d h.place k ≡ Progress.Missing
+      go : {d : Head} → Found bytes h.place (number (shape_of G h).kind) d → (k : Rule → Reader) → headed d h.place k ≡ Err Stop.Missing
       go (no_code i) k = refl
       go (no_choice r i c q t l) k = refl
       go (not_for i c) k = absurd (c m.0 m.1.code (ap number m.1.serves))
       go (begun r next b q) k =
           let f = first_byte b in absurd (absent (row r).chosen (sym (same_takes m.0 r (sym m.1.code ∙ f.1)) ∙ m.2) f.2)
-  fault-read (Progress.Wrong p) h t n = go (found bytes h.place (number (shape_of G h).kind)) _
+  fault-read (Err (Stop.Wrong p)) h t n = go (found bytes h.place (number (shape_of G h).kind)) _
     where
       named : (r : Rule) → h.place < length bytes → get_or bytes h.place 0 ≡ (row r).code → kind_for r ≡ number (shape_of G h).kind → ⊥
       named r i c q = t.0.1 r (record { within = i; code = c; serves = number-kind (row r).kind (shape_of G h).kind q })
 
-      go : {d : Head} → Found bytes h.place (number (shape_of G h).kind) d → (k : Rule → Reader) → headed d h.place k ≡ Progress.Wrong p
+      go : {d : Head} → Found bytes h.place (number (shape_of G h).kind) d → (k : Rule → Reader) → headed d h.place k ≡ Err (Stop.Wrong p)
       go (no_code i) k = absurd (omega (arith, t.0.0))
       go (no_choice r i c q _ _) k = absurd (named r i c q)
-      go (not_for i c) k = ap Progress.Wrong t.1
+      go (not_for i c) k = ap (λ (p : ℕ). Err (Stop.Wrong p)) t.1
       go (begun r next b q) k = let f = first_byte b in absurd (named r f.0 f.1 q)
-  fault-read (Progress.Fails p) h t n =
-      let b = t.0 in ⊎_elim (λ k. absurd (b.4 k.0)) (λ k. k.1 ∙ ap Progress.Fails t.1) (conditions h n b.0 b.1 b.2 b.3)
+  fault-read (Err (Stop.Fails p)) h t n =
+      let b = t.0 in ⊎_elim (λ k. absurd (b.4 k.0)) (λ k. k.1 ∙ ap (λ (p : ℕ). Err (Stop.Fails p)) t.1) (conditions h n b.0 b.1 b.2 b.3)
 
   -- A formula in hand is read so, whatever the fuel, as long as it lasts.
   abbrev ReadSo : Progress → Hand → Type 0

@@ -16,8 +16,7 @@ use Rattle.rules.specs.Kind.{Kind}
 use Rattle.rules.specs.Table.{Part, Premise, here, there, each, Premises, none, only, both}
 use Rattle.rules.specs.Steps.{ascending}
 use Rattle.rules.specs.Premises.{OfPart, part_steps, earlier, InPremise, InPremises}
-use Rattle.rules.specs.Reading.{Reader, through, read_premise, read_premises}
-use Rattle.rules.specs.declared.Progress.{Progress}
+use Rattle.rules.specs.Reading.{Reader, through, read_premise, read_premises, Progress}
 use Rattle.rules.proofs.Faithful.{Faithful, at_each}
 use Rattle.rules.proofs.PremiseLaws.{Ready, ReadyFor, ReadyForAll, PartLaws, premise-law}
 use Rattle.rules.proofs.Faults.{IsFault, no-fault, fault-stays, in-first-or-second, in_some, some_in, earlier-ones}

@@ -20,15 +20,17 @@ use Rattle.logic.specs.Test.{outside}
 use Rattle.logic.proofs.Walks.{fewer-off}
 use Rattle.rules.specs.Kind.{Kind, number}
 use Rattle.rules.specs.Table.{row, body, begin, Part}
-use Rattle.rules.specs.Head.{head_of}
 use Rattle.rules.specs.Spelled.{Spelled}
 use Rattle.rules.specs.Steps.{ByKind, steps_by}
 use Rattle.rules.specs.Premises.{OfPart, OfPremises, part_steps, premises_steps}
-use Rattle.rules.specs.Reading.{Reader, headed, asked, parts, leads, meets, read_premises, read_rule, read_step}
+use Rattle.rules.specs.Reading.{Reader, headed, asked, parts, leads, meets, read_premises, read_rule, read_step, Progress}
 use Rattle.rules.specs.declared.Rule.{Rule}
-use Rattle.rules.specs.declared.Head.{Head}
-use Rattle.rules.specs.declared.Progress.{Progress}
-use Rattle.rules.proofs.Heads.{head_step, head-begins}
+use Rattle.std.specs.Prelude.{Ok, Err}
+use Rattle.rules.specs.Head.{Head, step_by, head_of}
+use Rattle.rules.specs.declared.Step.{Step}
+use Rattle.rules.specs.declared.Unread.{Unread}
+use Rattle.rules.specs.declared.Stop.{Stop}
+use Rattle.rules.proofs.Heads.{head_step, head-begins, same_step}
 use Rattle.rules.proofs.Rows.{join, split}
 use Rattle.rules.proofs.Faithful.{Faithful}
 use Rattle.rules.proofs.PremiseLaws.{Ready, ready, PartLaws, premises-law}
@@ -65,25 +67,25 @@ pub asked-true : (b : Bool) (at : ℕ) (r : Progress) → T b → asked b at r �
 asked-true true at r t = refl
 asked-true false at r t = absurd t
 
-pub asked-false : (b : Bool) (at : ℕ) (r : Progress) → T (not b) → asked b at r ≡ Progress.Fails at
+pub asked-false : (b : Bool) (at : ℕ) (r : Progress) → T (not b) → asked b at r ≡ Err (Stop.Fails at)
 asked-false true at r t = absurd t
 asked-false false at r t = refl
 
-asked-at : (b : Bool) (at : ℕ) (r : Progress) {end : ℕ} → asked b at r ≡ Progress.At end → T b × (r ≡ Progress.At end)
+asked-at : (b : Bool) (at : ℕ) (r : Progress) {end : ℕ} → asked b at r ≡ Ok end → T b × (r ≡ Ok end)
 asked-at true at r e = (tt, e)
 asked-at false at r e = absurd (let z : ◌≡◌ {A = ℕ} 0 1 = cc in omega arith)
 
 -- A head that was read to an end is a rule's.
-pub headed-at : (h : Head) (at : ℕ) (k : Rule → Reader) {end : ℕ} → headed h at k ≡ Progress.At end
-    → (r : Rule) × (next : ℕ) × (h ≡ Head.Step r next) × (k r next ≡ Progress.At end)
-headed-at (Head.Step r next) at k e = (r, next, refl, e)
-headed-at Head.Missing at k e = absurd (let z : ◌≡◌ {A = ℕ} 0 1 = cc in omega arith)
-headed-at Head.Wrong at k e = absurd (let z : ◌≡◌ {A = ℕ} 0 1 = cc in omega arith)
+pub headed-at : (h : Head) (at : ℕ) (k : Rule → Reader) {end : ℕ} → headed h at k ≡ Ok end
+    → (r : Rule) × (next : ℕ) × (h ≡ Ok (step_by r next)) × (k r next ≡ Ok end)
+headed-at (Ok step) at k e = (step.rule, step.next, refl, e)
+headed-at (Err Unread.Missing) at k e = absurd (let z : ◌≡◌ {A = ℕ} 0 1 = cc in omega arith)
+headed-at (Err Unread.Wrong) at k e = absurd (let z : ◌≡◌ {A = ℕ} 0 1 = cc in omega arith)
 
 -- Where a rule for the kind in hand stands, and has its conditions, the step is read as its premises are.
 module _ (bytes : List ℕ) (K : Kind) (r : Rule) (serves : (row r).kind ≡ K) {at next : ℕ} (begins : Spelled bytes (begin r) at next) where
-  pub head-is : head_of bytes at (number K) ≡ Head.Step r next
-  head-is = subst (λ (k : Kind). head_of bytes at (number k) ≡ Head.Step r next) serves (head_step bytes at r begins)
+  pub head-is : head_of bytes at (number K) ≡ Ok (step_by r next)
+  head-is = subst (λ (k : Kind). head_of bytes at (number k) ≡ Ok (step_by r next)) serves (head_step bytes at r begins)
 
   pub step_is : (G : Graph) (p : Bool) (of : Part → ℕ → Reader) (w : Walk) (s : ℕ) → T (leads G s (row r).chosen) → T (meets p w s (body r).condition)
       → headed (head_of bytes at (number K)) at (read_rule G p of w s at) ≡ read_premises G of s (body r).premises next
@@ -111,13 +113,13 @@ module _ {G : Graph} (R : Readable G) {bytes : List ℕ} {p : Bool} {A B : ℕ �
       → Faithful bytes (read_premises G of s (body r).premises) (OfPremises G p A B K w s (body r).premises) (of-premises r)
   rule-law r n m = premises-law R L (body r).premises (ready G w s p r n m)
 
-  step-accepts : (l : Last) {at end : ℕ} → Spelled bytes (steps l) at end → step at ≡ Progress.At end
+  step-accepts : (l : Last) {at end : ℕ} → Spelled bytes (steps l) at end → step at ≡ Ok end
   step-accepts l f =
       let m = split (begin l.rule) f in
       step_is bytes K l.rule l.serves m.1 G p of w s l.successor l.condition
       ∙ (rule-law l.rule l.successor l.condition).accepts l.premises m.2
 
-  step-proves : {at end : ℕ} → step at ≡ Progress.At end → (l : Last) × Spelled bytes (steps l) at end
+  step-proves : {at end : ℕ} → step at ≡ Ok end → (l : Last) × Spelled bytes (steps l) at end
   step-proves {at} e =
       let h = headed-at (head_of bytes at (number K)) at (read_rule G p of w s at) e in
       let g = head-begins bytes at (number K) h.2 in
@@ -155,10 +157,9 @@ module _ {G : Graph} (R : Readable G) {bytes : List ℕ} {p : Bool} {A B : ℕ �
   step-unique l l' {end' = end'} f f' =
       let m = split (begin l.rule) f in
       let m' = split (begin l'.rule) f' in
-      let h : Head.Step l.rule m.0 ≡ Head.Step l'.rule m'.0 =
-      sym (head-is bytes K l.rule l.serves m.1) ∙ head-is bytes K l'.rule l'.serves m'.1 in
-      let e : l.rule ≡ l'.rule = cc in
-      let g : m'.0 ≡ m.0 = cc in
+      let h = same_step (sym (head-is bytes K l.rule l.serves m.1) ∙ head-is bytes K l'.rule l'.serves m'.1) in
+      let e : l.rule ≡ l'.rule = ap (λ (s : Step). s.rule) h in
+      let g : m'.0 ≡ m.0 = ap (λ (s : Step). s.next) (sym h) in
       same-rule l m.2 e l'.serves l'.successor l'.condition l'.premises
       (subst (λ (q : ℕ). Spelled bytes (of-premises l'.rule l'.premises) q end') g m'.2)
 

@@ -4,18 +4,22 @@
 -- A walk is read with fuel, which falls by one at each step that goes on, and is one more than `room` at its start. A walk never stands twice on
 -- a stage, so the fuel lasts where the graph has no more stages than `room` (`proofs/` shows it: nothing read depends on the fuel's end). The number
 -- is free so that code which holds a walk as a set with room for so many stages has `suc room`, less the set's size, for its fuel.
-use Rattle.std.specs.Prelude.{ℕ, zero, suc, Bool, true, false, not, List, [], ◌∷◌}
+use Rattle.std.specs.Prelude.{ℕ, zero, suc, Bool, true, false, not, List, [], ◌∷◌, Result, Ok, Err}
 use Rattle.model.specs.Graph.{Graph}
 use Rattle.model.specs.Formula.{Formula, truth, falsity, is, is_not, and, or, AX, EX, AF, EG, AR, EU, Env, bind, atom}
 use Rattle.logic.specs.Rules.{Walk, empty, also, on}
 use Rattle.rules.specs.Kind.{Kind, number}
 use Rattle.rules.specs.Table.{row, body, Part, a, b, again, Premise, here, there, each, Premises, none, only, both}
 use Rattle.rules.specs.Table.{Condition, always, atom_true, atom_false, off_walk, on_walk}
-use Rattle.rules.specs.Head.{head_of}
+use Rattle.rules.specs.Head.{Head, head_of}
 use Rattle.rules.specs.Shape.{shape}
 use Rattle.rules.specs.declared.Rule.{Rule}
-use Rattle.rules.specs.declared.Head.{Head}
-use Rattle.rules.specs.declared.Progress.{Progress}
+use Rattle.rules.specs.declared.Unread.{Unread}
+use Rattle.rules.specs.declared.Stop.{Stop}
+
+-- How far the reading of steps came: everything asked for is proved, by the steps up to a place; or where it stopped, and why.
+abbrev pub Progress : Type 0
+Progress = Result ℕ Stop
 
 -- A reader goes from a place to the next place or to a fault.
 abbrev pub Reader : Type 0
@@ -23,30 +27,28 @@ Reader = ℕ → Progress
 
 -- Go on from where the reading came to; a fault stays.
 abbrev pub onward : Progress → Reader → Progress
-onward (Progress.At p) r = r p
-onward Progress.Missing r = Progress.Missing
-onward (Progress.Wrong p) r = Progress.Wrong p
-onward (Progress.Fails p) r = Progress.Fails p
+onward (Ok p) r = r p
+onward (Err stop) r = Err stop
 
 -- By the head of the step at a place.
 abbrev pub headed : Head → ℕ → (Rule → Reader) → Progress
-headed (Head.Step r next) at k = k r next
-headed Head.Missing at k = Progress.Missing
-headed Head.Wrong at k = Progress.Wrong at
+headed (Ok step) at k = k step.rule step.next
+headed (Err Unread.Missing) at k = Err Stop.Missing
+headed (Err Unread.Wrong) at k = Err (Stop.Wrong at)
 
 -- A condition of the rule at a place.
 abbrev pub asked : Bool → ℕ → Progress → Progress
 asked true at r = r
-asked false at r = Progress.Fails at
+asked false at r = Err (Stop.Fails at)
 
 -- At a stage that is a successor; nothing is read where it is not.
 abbrev pub visit : Bool → Reader → Reader
 visit true r = r
-visit false r = Progress.At
+visit false r = Ok
 
 -- At each successor below n, ascending.
 abbrev pub through : ℕ → (ℕ → Bool) → (ℕ → Reader) → Reader
-through zero next r p = Progress.At p
+through zero next r p = Ok p
 through (suc t) next r p = onward (through t next r p) (visit (next t) (r t))
 
 -- Whether a condition holds at a stage s of the walk w: p says whether the formula's atom is true.
@@ -76,7 +78,7 @@ module _ (G : Graph) where
   read_premise of s (each q) = through G.stages (G.next s) (of q)
 
   abbrev pub read_premises : (Part → ℕ → Reader) → ℕ → Premises → Reader
-  read_premises of s none p = Progress.At p
+  read_premises of s none p = Ok p
   read_premises of s (only q) p = read_premise of s q p
   read_premises of s (both q r) p = onward (read_premise of s q p) (read_premise of s r)
 
@@ -89,7 +91,7 @@ module _ (G : Graph) where
   module _ (bytes : List ℕ) where
     -- A formula of a kind in hand, at a stage s of its walk w: p says whether its atom is true, A and B read its a and its b at a stage.
     abbrev pub read_step : Kind → Bool → (ℕ → Reader) → (ℕ → Reader) → ℕ → Walk → ℕ → Reader
-    read_step K p A B zero w s at = Progress.Missing
+    read_step K p A B zero w s at = Err Stop.Missing
     read_step K p A B (suc fuel) w s at =
         headed (head_of bytes at (number K)) at (read_rule p (parts A B (λ t. read_step K p A B fuel (also w s) t)) w s at)
 
@@ -100,7 +102,7 @@ module _ (room : ℕ) (G : Graph) (bytes : List ℕ) where
 
   -- For false there is no rule, so nothing is asked of its entries. An entry that a formula does not have is read as false.
   abbrev pub read_false : ℕ → Walk → ℕ → Reader
-  read_false = read_step G bytes Kind.False true (λ s at. Progress.Missing) (λ s at. Progress.Missing)
+  read_false = read_step G bytes Kind.False true (λ s at. Err Stop.Missing) (λ s at. Err Stop.Missing)
 
   abbrev pub no_entry : ℕ → Reader
   no_entry s = read_false (suc room) empty 0

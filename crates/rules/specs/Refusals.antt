@@ -9,7 +9,7 @@
 --     Broken       24: the rule's own condition fails
 --     Given22 ..   each number's whole condition, with its place
 --     answer       the numbers and places of the reading's answers
-use Rattle.std.specs.Prelude.{ℕ, ◌+◌, ◌≤◌, ◌<◌, ◌≡◌, Bool, true, false, ◌⊎◌, List, T, eqb, length, get_or}
+use Rattle.std.specs.Prelude.{ℕ, ◌+◌, ◌≤◌, ◌<◌, ◌≡◌, Bool, true, false, ◌⊎◌, List, T, eqb, length, get_or, Ok, Err}
 use Rattle.model.specs.Graph.{Graph}
 use Rattle.logic.specs.Rules.{Walk, empty, also, Derived}
 use Rattle.rules.specs.Table.{row, body, begin, takes, Part, Premises}
@@ -17,9 +17,9 @@ use Rattle.rules.specs.Spelled.{Spelled}
 use Rattle.rules.specs.Shape.{Entry, Shape, shape}
 use Rattle.rules.specs.Steps.{encode}
 use Rattle.rules.specs.Premises.{InPremises}
-use Rattle.rules.specs.Reading.{leads, meets}
+use Rattle.rules.specs.Reading.{leads, meets, Progress}
 use Rattle.rules.specs.declared.Rule.{Rule}
-use Rattle.rules.specs.declared.Progress.{Progress}
+use Rattle.rules.specs.declared.Stop.{Stop}
 
 -- A formula in hand: an entry, the walk and the stage at which it is to be proved, and the place of the step.
 pub record Hand : Type 0 where
@@ -88,10 +88,10 @@ module _ (G : Graph) where
 
     -- What is at fault with the formula in hand.
     abbrev pub Fault : Hand → Progress → Type 0
-    Fault h (Progress.At p) = ⊥
-    Fault h Progress.Missing = Lacks h
-    Fault h (Progress.Wrong p) = NotFor h × (h.place ≡ p)
-    Fault h (Progress.Fails p) = Broken h × (h.place ≡ p)
+    Fault h (Ok p) = ⊥
+    Fault h (Err Stop.Missing) = Lacks h
+    Fault h (Err (Stop.Wrong p)) = NotFor h × (h.place ≡ p)
+    Fault h (Err (Stop.Fails p)) = Broken h × (h.place ≡ p)
 
     -- When each number is given, and with which place, to the bytes from the place `at` on, for an entry that they are to prove.
     abbrev pub Given22 : Entry → ℕ → ℕ → Type 0
@@ -121,7 +121,7 @@ at_end true at = accepted
 at_end false at = refused 25 at
 
 abbrev pub answer : List ℕ → Progress → Answer
-answer bytes (Progress.At at) = at_end (eqb at (length bytes)) at
-answer bytes Progress.Missing = refused 22 (length bytes)
-answer bytes (Progress.Wrong at) = refused 23 at
-answer bytes (Progress.Fails at) = refused 24 at
+answer bytes (Ok at) = at_end (eqb at (length bytes)) at
+answer bytes (Err Stop.Missing) = refused 22 (length bytes)
+answer bytes (Err (Stop.Wrong at)) = refused 23 at
+answer bytes (Err (Stop.Fails at)) = refused 24 at

@@ -1,7 +1,7 @@
 -- Document 01, "The steps of a proof": the seventeen rules. How a step by each begins: its code, the chosen stage that the byte after the code
 -- holds, and the kind of formula that it is for. What each asks and proves by: its own condition, and its premises in order.
 -- Nowhere else does a rule meet a number.
-use Rattle.std.specs.Prelude.{ℕ, Bool, true, false, List, [], ◌∷◌, get_or}
+use Rattle.std.specs.Prelude.{ℕ, Bool, true, false, List, [], ◌∷◌, Option, get_or, slice_get}
 use Rattle.rules.specs.Kind.{Kind, number}
 use Rattle.rules.specs.declared.Rule.{Rule}
 
@@ -86,6 +86,17 @@ rules c =
 
 abbrev pub rule_of : ℕ → ℕ → Rule
 rule_of code c = get_or (rules c) code Rule.True
+
+-- The one with a code, with 0 for its chosen stage where there is one; none above the last code.
+abbrev pub rule_with : ℕ → Option Rule
+rule_with code = slice_get (rules 0) code
+
+-- A rule with c for its chosen stage, where there is one.
+abbrev pub with_choice : ℕ → Rule → Rule
+with_choice c (Rule.Ex d) = Rule.Ex c
+with_choice c (Rule.EgOn d) = Rule.EgOn c
+with_choice c (Rule.EuLater d) = Rule.EuLater c
+with_choice c r = r
 
 -- The number of the kind that a rule is for.
 abbrev pub kind_for : Rule → ℕ

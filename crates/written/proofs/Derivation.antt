@@ -16,8 +16,7 @@ use lib.Dec.{T}
 use lib.ListN.{length, length-append}
 use lib.Seq.{drop-append_seam}
 use Rattle.model.specs.Graph.{Graph, Readable}
-use Rattle.model.specs.Formula.{Formula, truth, falsity, is, is_not, and, or, AX, EX, AF, EG, AR, EU, Env, bind, value, Term, dual}
-use Rattle.model.specs.Formula.{TermBelow, Below}
+use Rattle.model.specs.Formula.{Formula, truth, falsity, is, is_not, and, or, AX, EX, AF, EG, AR, EU, Env, bind, value, Term, dual, TermBelow, Below}
 use Rattle.logic.specs.Meaning.{Holds}
 use Rattle.logic.specs.Rules.{empty, Derived}
 use Rattle.logic.specs.Test.{Stages, each_next, some_next, eg, af, ar, eu, test, Stand}
@@ -27,12 +26,11 @@ use Rattle.logic.proofs.Duality.{dual-below, holds-or-dual}
 use Rattle.rules.specs.Kind.{Kind}
 use Rattle.rules.specs.Steps.{no_steps, encode}
 use Rattle.rules.specs.Reading.{read_formula}
-use Rattle.rules.specs.declared.Progress.{Progress}
+use Rattle.std.specs.Prelude.{Ok}
 use Rattle.rules.proofs.Accepted.{certificate}
 use Rattle.written.specs.Chosen.{nowhere, no_ours, Ours}
 use Rattle.written.specs.Written.{Entry, along, entry, no_entry, written_on, written}
-use Rattle.written.proofs.WalkLaws.{Meant, Proves, Derives, and-derives, or-derives, ax-derives, ex-derives, af-derives}
-use Rattle.written.proofs.WalkLaws.{eg-derives, ar-derives, eu-derives}
+use Rattle.written.proofs.WalkLaws.{Meant, Proves, Derives, and-derives, or-derives, ax-derives, ex-derives, af-derives, eg-derives, ar-derives, eu-derives}
 
 module _ {G : Graph} (R : Readable G) where
   -- What is written for f is the steps of a derivation of it that is ours, wherever its variables stand.
@@ -125,7 +123,7 @@ module _ {G : Graph} (R : Readable G) (f : Formula) (e : Env) (b : Below G.stage
 
   -- So what is written after a header is accepted as its steps, with nothing remaining.
   pub written-accepted : {room : ℕ} → G.stages ≤ room → (header : List ℕ) → Holds G f e
-      → read_formula room G (header ++ written G f e) f e (length header) ≡ Progress.At (length (header ++ written G f e))
+      → read_formula room G (header ++ written G f e) f e (length header) ≡ Ok (length (header ++ written G f e))
   written-accepted small header u =
       let p = written-proves u in
       (certificate R small f e (header ++ written G f e) (length header) (omega (arith, length-append header (written G f e)))).1

@@ -16,7 +16,7 @@ use Rattle.checker.proofs.ConditionLaws.{chosen-fails, chosen-holds, chosen-next
 use Rattle.format.specs.Image.{graph_of}
 use Rattle.sets.proofs.LawsCount.{ones-zero}
 use Rattle.rules.specs.Reading.{Reader}
-use Rattle.rules.specs.declared.Progress.{Progress}
+use Rattle.std.specs.Prelude.{Ok, Err}
 use Rattle.checker.proofs.ReadingLaws.{from_start}
 use Rattle.checker.proofs.WalkLaws.{grows, along-on}
 use Rattle.checker.proofs.steps.+at_each_formula_go_on_walk.Goals as goal
@@ -78,29 +78,29 @@ walk-field-requires t c = (omega arith, room c.requires.walk.hand)
 
 pub walk-returns-in-True : goal.walk-returns-in-True
 walk-returns-in-True t c =
-    no_walk c.field.ensures c.read_head.ensures c.in-Step.is c.in-True.is (number c.args.met) c.args.s (omega arith)
+    no_walk c.field.ensures c.read_head.ensures c.in-Ok.is c.in-True.is (number c.args.met) c.args.s (omega arith)
 
 pub walk-returns-in-Holds : goal.walk-returns-in-Holds
 walk-returns-in-Holds t c =
-    no_walk c.field.ensures c.read_head.ensures c.in-Step.is c.in-Holds.is (number c.args.met) c.args.s (omega arith)
+    no_walk c.field.ensures c.read_head.ensures c.in-Ok.is c.in-Holds.is (number c.args.met) c.args.s (omega arith)
 
 pub walk-returns-in-HoldsNot : goal.walk-returns-in-HoldsNot
 walk-returns-in-HoldsNot t c =
-    no_walk c.field.ensures c.read_head.ensures c.in-Step.is c.in-HoldsNot.is (number c.args.met) c.args.s (omega arith)
+    no_walk c.field.ensures c.read_head.ensures c.in-Ok.is c.in-HoldsNot.is (number c.args.met) c.args.s (omega arith)
 
 pub walk-field-a-requires : goal.walk-field-a-requires
 walk-field-a-requires t c = (omega arith, room c.requires.walk.hand)
 
 pub walk-formula-here-requires : goal.walk-formula-here-requires
 walk-formula-here-requires t c =
-    let arm = arm-of c.args.steps.now c.requires.walk.hand c.args.at c.field.ensures c.read_head.ensures c.in-Step.is
+    let arm = arm-of c.args.steps.now c.requires.walk.hand c.args.at c.field.ensures c.read_head.ensures c.in-Ok.is
     c.in-And.is in
     let op = a-operand c.args.steps.now c.requires.walk.hand (arm-ruled arm).a c.field-a.ensures in
     (omega (arith, c.decreases, op.lower), handed op.hand)
 
 pub walk-returns-then-steps-here : goal.walk-returns-then-steps-here
 walk-returns-then-steps-here t c =
-    taken c.field.ensures c.read_head.ensures c.in-Step.is c.in-And.is (number c.args.met) c.args.s
+    taken c.field.ensures c.read_head.ensures c.in-Ok.is c.in-And.is (number c.args.met) c.args.s
     (λ image table side w arm.
     let op = a-operand c.args.steps.now w.hand (arm-ruled arm).a c.field-a.ensures in
     (refl, stops _ _ c.if-steps-here.true (op.reads _ (c.formula-here.ensures.is op.hand))))
@@ -111,14 +111,14 @@ walk-field-b-requires t c =
 
 pub walk-formula-requires : goal.walk-formula-requires
 walk-formula-requires t c =
-    let arm = arm-of c.args.steps.now c.requires.walk.hand c.args.at c.field.ensures c.read_head.ensures c.in-Step.is
+    let arm = arm-of c.args.steps.now c.requires.walk.hand c.args.at c.field.ensures c.read_head.ensures c.in-Ok.is
     c.in-And.is in
     let op = b-operand c.args.steps.now c.requires.walk.hand (arm-ruled arm).b c.field-b.ensures in
     (omega (arith, c.decreases, op.lower), handed op.hand)
 
 pub walk-returns-in-And : goal.walk-returns-in-And
 walk-returns-in-And t c =
-    taken c.field.ensures c.read_head.ensures c.in-Step.is c.in-And.is (number c.args.met) c.args.s
+    taken c.field.ensures c.read_head.ensures c.in-Ok.is c.in-And.is (number c.args.met) c.args.s
     (λ image table side w arm.
     let first = a-operand c.args.steps.now w.hand (arm-ruled arm).a c.field-a.ensures in
     let second = b-operand c.args.steps.now w.hand (arm-ruled arm).b c.field-b.ensures in
@@ -129,14 +129,14 @@ walk-field-a-requires-in-OrLeft t c = (omega arith, room c.requires.walk.hand)
 
 pub walk-formula-requires-in-OrLeft : goal.walk-formula-requires-in-OrLeft
 walk-formula-requires-in-OrLeft t c =
-    let arm = arm-of c.args.steps.now c.requires.walk.hand c.args.at c.field.ensures c.read_head.ensures c.in-Step.is
+    let arm = arm-of c.args.steps.now c.requires.walk.hand c.args.at c.field.ensures c.read_head.ensures c.in-Ok.is
     c.in-OrLeft.is in
     let op = a-operand c.args.steps.now c.requires.walk.hand (arm-ruled arm).a c.field-a-in-OrLeft.ensures in
     (omega (arith, c.decreases, op.lower), handed op.hand)
 
 pub walk-returns-in-OrLeft : goal.walk-returns-in-OrLeft
 walk-returns-in-OrLeft t c =
-    taken c.field.ensures c.read_head.ensures c.in-Step.is c.in-OrLeft.is (number c.args.met) c.args.s
+    taken c.field.ensures c.read_head.ensures c.in-Ok.is c.in-OrLeft.is (number c.args.met) c.args.s
     (λ image table side w arm.
     let op = a-operand c.args.steps.now w.hand (arm-ruled arm).a c.field-a-in-OrLeft.ensures in
     (refl, op.reads _ (c.formula-in-OrLeft.ensures.is op.hand)))
@@ -146,14 +146,14 @@ walk-field-b-requires-in-OrRight t c = (omega arith, room c.requires.walk.hand)
 
 pub walk-formula-requires-in-OrRight : goal.walk-formula-requires-in-OrRight
 walk-formula-requires-in-OrRight t c =
-    let arm = arm-of c.args.steps.now c.requires.walk.hand c.args.at c.field.ensures c.read_head.ensures c.in-Step.is
+    let arm = arm-of c.args.steps.now c.requires.walk.hand c.args.at c.field.ensures c.read_head.ensures c.in-Ok.is
     c.in-OrRight.is in
     let op = b-operand c.args.steps.now c.requires.walk.hand (arm-ruled arm).b c.field-b-in-OrRight.ensures in
     (omega (arith, c.decreases, op.lower), handed op.hand)
 
 pub walk-returns-in-OrRight : goal.walk-returns-in-OrRight
 walk-returns-in-OrRight t c =
-    taken c.field.ensures c.read_head.ensures c.in-Step.is c.in-OrRight.is (number c.args.met) c.args.s
+    taken c.field.ensures c.read_head.ensures c.in-Ok.is c.in-OrRight.is (number c.args.met) c.args.s
     (λ image table side w arm.
     let op = b-operand c.args.steps.now w.hand (arm-ruled arm).b c.field-b-in-OrRight.ensures in
     (refl, op.reads _ (c.formula-in-OrRight.ensures.is op.hand)))
@@ -161,18 +161,18 @@ walk-returns-in-OrRight t c =
 pub walk-at_each-requires : goal.walk-at_each-requires
 walk-at_each-requires t c =
     let w = c.requires.walk in
-    let arm = arm-of c.args.steps.now w.hand c.args.at c.field.ensures c.read_head.ensures c.in-Step.is c.in-Ax.is in
+    let arm = arm-of c.args.steps.now w.hand c.args.at c.field.ensures c.read_head.ensures c.in-Ok.is c.in-Ax.is in
     (omega (arith, c.decreases), (walking w, (omega (arith, a-is w.hand, (arm-ruled arm).a), arm-inside arm)))
 
 pub walk-returns-in-Ax : goal.walk-returns-in-Ax
 walk-returns-in-Ax t c =
-    taken c.field.ensures c.read_head.ensures c.in-Step.is c.in-Ax.is (number c.args.met) c.args.s
+    taken c.field.ensures c.read_head.ensures c.in-Ok.is c.in-Ax.is (number c.args.met) c.args.s
     (λ image table side w arm.
     (refl, c.at_each.ensures.is w))
 
 pub walk-returns-then-not-leads : goal.walk-returns-then-not-leads
 walk-returns-then-not-leads t c =
-    refused c.field.ensures c.read_head.ensures c.in-Step.is c.in-Ex.is (number c.args.met) c.args.s
+    refused c.field.ensures c.read_head.ensures c.in-Ok.is c.in-Ex.is (number c.args.met) c.args.s
     (λ image table side w. chosen-fails c.leads.result true (next-is _ w c.index-k.ensures c.leads.ensures) c.if-not-leads.true)
     c.fails.ensures
 
@@ -187,14 +187,14 @@ walk-x_at-bound-requires t c =
 pub walk-formula-requires-in-Ex : goal.walk-formula-requires-in-Ex
 walk-formula-requires-in-Ex t c =
     let w = c.requires.walk in
-    let arm = arm-of c.args.steps.now w.hand c.args.at c.field.ensures c.read_head.ensures c.in-Step.is c.in-Ex.is in
+    let arm = arm-of c.args.steps.now w.hand c.args.at c.field.ensures c.read_head.ensures c.in-Ok.is c.in-Ex.is in
     let op = a-bound c.args.steps.now w.hand (arm-ruled arm).a c.field-a-in-Ex.ensures c.x_at-bound.ensures
     (onto _ w (chosen-next c.leads.result (next-is _ w c.index-k.ensures c.leads.ensures) c.if-not-leads.false)).stage in
     (omega (arith, c.decreases, op.lower), handed op.hand)
 
 pub walk-returns-in-Ex : goal.walk-returns-in-Ex
 walk-returns-in-Ex t c =
-    taken c.field.ensures c.read_head.ensures c.in-Step.is c.in-Ex.is (number c.args.met) c.args.s
+    taken c.field.ensures c.read_head.ensures c.in-Ok.is c.in-Ex.is (number c.args.met) c.args.s
     (λ image table side w arm.
     let op = a-bound c.args.steps.now w.hand (arm-ruled arm).a c.field-a-in-Ex.ensures c.x_at-bound.ensures
     (onto _ w (chosen-next c.leads.result (next-is _ w c.index-k.ensures c.leads.ensures) c.if-not-leads.false)).stage in (
@@ -206,7 +206,7 @@ walk-returns-in-Ex t c =
 
 pub walk-returns-then-has : goal.walk-returns-then-has
 walk-returns-then-has t c =
-    refused c.field.ensures c.read_head.ensures c.in-Step.is c.in-AfNow.is (number c.args.met) c.args.s
+    refused c.field.ensures c.read_head.ensures c.in-Ok.is c.in-AfNow.is (number c.args.met) c.args.s
     (λ image table side w. off-fails (number c.args.met) c.index-k.ensures c.has.result c.has.ensures c.if-has.true)
     c.fails-then-has.ensures
 
@@ -221,13 +221,13 @@ walk-x_at-bound-requires-in-AfNow t c =
 pub walk-formula-requires-in-AfNow : goal.walk-formula-requires-in-AfNow
 walk-formula-requires-in-AfNow t c =
     let w = c.requires.walk in
-    let arm = arm-of c.args.steps.now w.hand c.args.at c.field.ensures c.read_head.ensures c.in-Step.is c.in-AfNow.is in
+    let arm = arm-of c.args.steps.now w.hand c.args.at c.field.ensures c.read_head.ensures c.in-Ok.is c.in-AfNow.is in
     let op = a-bound c.args.steps.now w.hand (arm-ruled arm).a c.field-a-in-AfNow.ensures c.x_at-bound-in-AfNow.ensures w.stage in
     (omega (arith, c.decreases, op.lower), handed op.hand)
 
 pub walk-returns-in-AfNow : goal.walk-returns-in-AfNow
 walk-returns-in-AfNow t c =
-    taken c.field.ensures c.read_head.ensures c.in-Step.is c.in-AfNow.is (number c.args.met) c.args.s
+    taken c.field.ensures c.read_head.ensures c.in-Ok.is c.in-AfNow.is (number c.args.met) c.args.s
     (λ image table side w arm.
     let op = a-bound c.args.steps.now w.hand (arm-ruled arm).a c.field-a-in-AfNow.ensures c.x_at-bound-in-AfNow.ensures w.stage in (
       off-holds (number c.args.met) c.index-k.ensures c.has.result c.has.ensures c.if-has.false,
@@ -236,27 +236,27 @@ walk-returns-in-AfNow t c =
 
 pub walk-returns-then-has-2 : goal.walk-returns-then-has-2
 walk-returns-then-has-2 t c =
-    refused c.field.ensures c.read_head.ensures c.in-Step.is c.in-AfLater.is (number c.args.met) c.args.s
+    refused c.field.ensures c.read_head.ensures c.in-Ok.is c.in-AfLater.is (number c.args.met) c.args.s
     (λ image table side w. off-fails (number c.args.met) c.index-k.ensures c.has-in-AfLater.result c.has-in-AfLater.ensures c.if-has-2.true)
     c.fails-then-has-2.ensures
 
 pub walk-returns-then-has-3 : goal.walk-returns-then-has-3
 walk-returns-then-has-3 t c =
-    refused c.field.ensures c.read_head.ensures c.in-Step.is c.in-EgOn.is (number c.args.met) c.args.s
+    refused c.field.ensures c.read_head.ensures c.in-Ok.is c.in-EgOn.is (number c.args.met) c.args.s
     (λ image table side w. besides-fails ((graph_of image).next c.args.s c.in-EgOn.c)
     (off-fails (number c.args.met) c.index-k.ensures c.has-in-EgOn.result c.has-in-EgOn.ensures c.if-has-3.true))
     c.fails-then-has-3.ensures
 
 pub walk-returns-then-not-leads-2 : goal.walk-returns-then-not-leads-2
 walk-returns-then-not-leads-2 t c =
-    refused c.field.ensures c.read_head.ensures c.in-Step.is c.in-EgOn.is (number c.args.met) c.args.s
+    refused c.field.ensures c.read_head.ensures c.in-Ok.is c.in-EgOn.is (number c.args.met) c.args.s
     (λ image table side w. chosen-fails c.leads-in-EgOn.result _ (next-is _ w c.index-k.ensures c.leads-in-EgOn.ensures) c.if-not-leads-2.true)
     c.fails-then-not-leads-2.ensures
 
 pub walk-go_on-requires : goal.walk-go_on-requires
 walk-go_on-requires t c =
     let w = c.requires.walk in
-    let arm = arm-of c.args.steps.now w.hand c.args.at c.field.ensures c.read_head.ensures c.in-Step.is c.in-EgOn.is in (
+    let arm = arm-of c.args.steps.now w.hand c.args.at c.field.ensures c.read_head.ensures c.in-Ok.is c.in-EgOn.is in (
       omega (arith, c.decreases),
       record {
         walking = c.requires;
@@ -268,7 +268,7 @@ walk-go_on-requires t c =
 
 pub walk-returns-in-EgOn : goal.walk-returns-in-EgOn
 walk-returns-in-EgOn t c =
-    taken c.field.ensures c.read_head.ensures c.in-Step.is c.in-EgOn.is (number c.args.met) c.args.s
+    taken c.field.ensures c.read_head.ensures c.in-Ok.is c.in-EgOn.is (number c.args.met) c.args.s
     (λ image table side w arm. (
       chosen-holds c.leads-in-EgOn.result (next-is _ w c.index-k.ensures c.leads-in-EgOn.ensures) c.if-not-leads-2.false
           (off-holds (number c.args.met) c.index-k.ensures c.has-in-EgOn.result c.has-in-EgOn.ensures c.if-has-3.false),
@@ -277,20 +277,20 @@ walk-returns-in-EgOn t c =
 
 pub walk-returns-then-not-has : goal.walk-returns-then-not-has
 walk-returns-then-not-has t c =
-    refused c.field.ensures c.read_head.ensures c.in-Step.is c.in-EgMerge.is (number c.args.met) c.args.s
+    refused c.field.ensures c.read_head.ensures c.in-Ok.is c.in-EgMerge.is (number c.args.met) c.args.s
     (λ image table side w. on-fails (number c.args.met) c.index-k.ensures c.has-in-EgMerge.result c.has-in-EgMerge.ensures c.if-not-has.true)
     c.fails-then-not-has.ensures
 
 pub walk-returns-in-EgMerge : goal.walk-returns-in-EgMerge
 walk-returns-in-EgMerge t c =
-    finished c.field.ensures c.read_head.ensures c.in-Step.is c.in-EgMerge.is (number c.args.met) c.args.s
+    finished c.field.ensures c.read_head.ensures c.in-Ok.is c.in-EgMerge.is (number c.args.met) c.args.s
     (λ image table side w. (on-holds (number c.args.met) c.index-k.ensures c.has-in-EgMerge.result c.has-in-EgMerge.ensures c.if-not-has.false, refl))
 
 -- ---- `walk`, the rules for AR and EU
 
 pub walk-returns-then-has-4 : goal.walk-returns-then-has-4
 walk-returns-then-has-4 t c =
-    refused c.field.ensures c.read_head.ensures c.in-Step.is c.in-ArRelease.is (number c.args.met) c.args.s
+    refused c.field.ensures c.read_head.ensures c.in-Ok.is c.in-ArRelease.is (number c.args.met) c.args.s
     (λ image table side w. off-fails (number c.args.met) c.index-k.ensures c.has-in-ArRelease.result c.has-in-ArRelease.ensures c.if-has-4.true)
     c.fails-then-has-4.ensures
 
@@ -305,13 +305,13 @@ walk-x_at-bound-requires-in-ArRelease t c =
 pub walk-formula-here-requires-in-ArRelease : goal.walk-formula-here-requires-in-ArRelease
 walk-formula-here-requires-in-ArRelease t c =
     let w = c.requires.walk in
-    let arm = arm-of c.args.steps.now w.hand c.args.at c.field.ensures c.read_head.ensures c.in-Step.is c.in-ArRelease.is in
+    let arm = arm-of c.args.steps.now w.hand c.args.at c.field.ensures c.read_head.ensures c.in-Ok.is c.in-ArRelease.is in
     let op = a-bound c.args.steps.now w.hand (arm-ruled arm).a c.field-a-in-ArRelease.ensures c.x_at-bound-in-ArRelease.ensures w.stage in
     (omega (arith, c.decreases, op.lower), handed op.hand)
 
 pub walk-returns-then-steps-here-2 : goal.walk-returns-then-steps-here-2
 walk-returns-then-steps-here-2 t c =
-    taken c.field.ensures c.read_head.ensures c.in-Step.is c.in-ArRelease.is (number c.args.met) c.args.s
+    taken c.field.ensures c.read_head.ensures c.in-Ok.is c.in-ArRelease.is (number c.args.met) c.args.s
     (λ image table side w arm.
     let op = a-bound c.args.steps.now w.hand (arm-ruled arm).a c.field-a-in-ArRelease.ensures c.x_at-bound-in-ArRelease.ensures w.stage in (
       off-holds (number c.args.met) c.index-k.ensures c.has-in-ArRelease.result c.has-in-ArRelease.ensures c.if-has-4.false,
@@ -329,13 +329,13 @@ walk-y_at-bound-requires t c =
 pub walk-formula-requires-in-ArRelease : goal.walk-formula-requires-in-ArRelease
 walk-formula-requires-in-ArRelease t c =
     let w = c.requires.walk in
-    let arm = arm-of c.args.steps.now w.hand c.args.at c.field.ensures c.read_head.ensures c.in-Step.is c.in-ArRelease.is in
+    let arm = arm-of c.args.steps.now w.hand c.args.at c.field.ensures c.read_head.ensures c.in-Ok.is c.in-ArRelease.is in
     let op = b-bound c.args.steps.now w.hand (arm-ruled arm).b c.field-b-in-ArRelease.ensures c.y_at-bound.ensures w.stage in
     (omega (arith, c.decreases, op.lower), handed op.hand)
 
 pub walk-returns-in-ArRelease : goal.walk-returns-in-ArRelease
 walk-returns-in-ArRelease t c =
-    taken c.field.ensures c.read_head.ensures c.in-Step.is c.in-ArRelease.is (number c.args.met) c.args.s
+    taken c.field.ensures c.read_head.ensures c.in-Ok.is c.in-ArRelease.is (number c.args.met) c.args.s
     (λ image table side w arm.
     let first = a-bound c.args.steps.now w.hand (arm-ruled arm).a c.field-a-in-ArRelease.ensures c.x_at-bound-in-ArRelease.ensures w.stage in
     let second = b-bound c.args.steps.now w.hand (arm-ruled arm).b c.field-b-in-ArRelease.ensures c.y_at-bound.ensures w.stage in (
@@ -346,7 +346,7 @@ walk-returns-in-ArRelease t c =
 
 pub walk-returns-then-has-5 : goal.walk-returns-then-has-5
 walk-returns-then-has-5 t c =
-    refused c.field.ensures c.read_head.ensures c.in-Step.is c.in-ArOn.is (number c.args.met) c.args.s
+    refused c.field.ensures c.read_head.ensures c.in-Ok.is c.in-ArOn.is (number c.args.met) c.args.s
     (λ image table side w. off-fails (number c.args.met) c.index-k.ensures c.has-in-ArOn.result c.has-in-ArOn.ensures c.if-has-5.true)
     c.fails-then-has-5.ensures
 
@@ -361,24 +361,24 @@ walk-y_at-bound-requires-in-ArOn t c =
 pub walk-formula-from-requires : goal.walk-formula-from-requires
 walk-formula-from-requires t c =
     let w = c.requires.walk in
-    let arm = arm-of c.args.steps.now w.hand c.args.at c.field.ensures c.read_head.ensures c.in-Step.is c.in-ArOn.is in
+    let arm = arm-of c.args.steps.now w.hand c.args.at c.field.ensures c.read_head.ensures c.in-Ok.is c.in-ArOn.is in
     let op = b-bound c.args.steps.now w.hand (arm-ruled arm).b c.field-b-in-ArOn.ensures c.y_at-bound-in-ArOn.ensures w.stage in
     (omega (arith, c.decreases, op.lower), handed op.hand)
 
 pub walk-returns-then-not-has-2 : goal.walk-returns-then-not-has-2
 walk-returns-then-not-has-2 t c =
-    refused c.field.ensures c.read_head.ensures c.in-Step.is c.in-ArMerge.is (number c.args.met) c.args.s
+    refused c.field.ensures c.read_head.ensures c.in-Ok.is c.in-ArMerge.is (number c.args.met) c.args.s
     (λ image table side w. on-fails (number c.args.met) c.index-k.ensures c.has-in-ArMerge.result c.has-in-ArMerge.ensures c.if-not-has-2.true)
     c.fails-then-not-has-2.ensures
 
 pub walk-returns-in-ArMerge : goal.walk-returns-in-ArMerge
 walk-returns-in-ArMerge t c =
-    finished c.field.ensures c.read_head.ensures c.in-Step.is c.in-ArMerge.is (number c.args.met) c.args.s
+    finished c.field.ensures c.read_head.ensures c.in-Ok.is c.in-ArMerge.is (number c.args.met) c.args.s
     (λ image table side w. (on-holds (number c.args.met) c.index-k.ensures c.has-in-ArMerge.result c.has-in-ArMerge.ensures c.if-not-has-2.false, refl))
 
 pub walk-returns-then-has-6 : goal.walk-returns-then-has-6
 walk-returns-then-has-6 t c =
-    refused c.field.ensures c.read_head.ensures c.in-Step.is c.in-EuNow.is (number c.args.met) c.args.s
+    refused c.field.ensures c.read_head.ensures c.in-Ok.is c.in-EuNow.is (number c.args.met) c.args.s
     (λ image table side w. off-fails (number c.args.met) c.index-k.ensures c.has-in-EuNow.result c.has-in-EuNow.ensures c.if-has-6.true)
     c.fails-then-has-6.ensures
 
@@ -393,13 +393,13 @@ walk-y_at-bound-requires-in-EuNow t c =
 pub walk-formula-requires-in-EuNow : goal.walk-formula-requires-in-EuNow
 walk-formula-requires-in-EuNow t c =
     let w = c.requires.walk in
-    let arm = arm-of c.args.steps.now w.hand c.args.at c.field.ensures c.read_head.ensures c.in-Step.is c.in-EuNow.is in
+    let arm = arm-of c.args.steps.now w.hand c.args.at c.field.ensures c.read_head.ensures c.in-Ok.is c.in-EuNow.is in
     let op = b-bound c.args.steps.now w.hand (arm-ruled arm).b c.field-b-in-EuNow.ensures c.y_at-bound-in-EuNow.ensures w.stage in
     (omega (arith, c.decreases, op.lower), handed op.hand)
 
 pub walk-returns-in-EuNow : goal.walk-returns-in-EuNow
 walk-returns-in-EuNow t c =
-    taken c.field.ensures c.read_head.ensures c.in-Step.is c.in-EuNow.is (number c.args.met) c.args.s
+    taken c.field.ensures c.read_head.ensures c.in-Ok.is c.in-EuNow.is (number c.args.met) c.args.s
     (λ image table side w arm.
     let op = b-bound c.args.steps.now w.hand (arm-ruled arm).b c.field-b-in-EuNow.ensures c.y_at-bound-in-EuNow.ensures w.stage in (
       off-holds (number c.args.met) c.index-k.ensures c.has-in-EuNow.result c.has-in-EuNow.ensures c.if-has-6.false,
@@ -408,21 +408,21 @@ walk-returns-in-EuNow t c =
 
 pub walk-returns-then-has-7 : goal.walk-returns-then-has-7
 walk-returns-then-has-7 t c =
-    refused c.field.ensures c.read_head.ensures c.in-Step.is c.in-EuLater.is (number c.args.met) c.args.s
+    refused c.field.ensures c.read_head.ensures c.in-Ok.is c.in-EuLater.is (number c.args.met) c.args.s
     (λ image table side w. besides-fails ((graph_of image).next c.args.s c.in-EuLater.c)
     (off-fails (number c.args.met) c.index-k.ensures c.has-in-EuLater.result c.has-in-EuLater.ensures c.if-has-7.true))
     c.fails-then-has-7.ensures
 
 pub walk-returns-then-not-leads-3 : goal.walk-returns-then-not-leads-3
 walk-returns-then-not-leads-3 t c =
-    refused c.field.ensures c.read_head.ensures c.in-Step.is c.in-EuLater.is (number c.args.met) c.args.s
+    refused c.field.ensures c.read_head.ensures c.in-Ok.is c.in-EuLater.is (number c.args.met) c.args.s
     (λ image table side w. chosen-fails c.leads-in-EuLater.result _ (next-is _ w c.index-k.ensures c.leads-in-EuLater.ensures) c.if-not-leads-3.true)
     c.fails-then-not-leads-3.ensures
 
 pub walk-go_on-requires-in-EuLater : goal.walk-go_on-requires-in-EuLater
 walk-go_on-requires-in-EuLater t c =
     let w = c.requires.walk in
-    let arm = arm-of c.args.steps.now w.hand c.args.at c.field.ensures c.read_head.ensures c.in-Step.is c.in-EuLater.is in (
+    let arm = arm-of c.args.steps.now w.hand c.args.at c.field.ensures c.read_head.ensures c.in-Ok.is c.in-EuLater.is in (
       omega (arith, c.decreases),
       record {
         walking = c.requires;
@@ -434,7 +434,7 @@ walk-go_on-requires-in-EuLater t c =
 
 pub walk-returns-in-EuLater : goal.walk-returns-in-EuLater
 walk-returns-in-EuLater t c =
-    taken c.field.ensures c.read_head.ensures c.in-Step.is c.in-EuLater.is (number c.args.met) c.args.s
+    taken c.field.ensures c.read_head.ensures c.in-Ok.is c.in-EuLater.is (number c.args.met) c.args.s
     (λ image table side w arm. (
       chosen-holds c.leads-in-EuLater.result (next-is _ w c.index-k.ensures c.leads-in-EuLater.ensures) c.if-not-leads-3.false
           (off-holds (number c.args.met) c.index-k.ensures c.has-in-EuLater.result c.has-in-EuLater.ensures c.if-has-7.false),
@@ -450,13 +450,13 @@ walk-loop-env-init t c =
       | walk-in-AfLater+else-has-2 w ↦ begun (rest-as _ _ _ _ _ _ _ _ (record {
         off = off-walk _ _ (off-holds (number c.args.met) c.index-k.ensures w.has-in-AfLater.result w.has-in-AfLater.ensures w.if-has-2.false);
         is = λ {image} {table} {side} h.
-            let arm = arm-of c.args.steps.now h.hand c.args.at c.field.ensures c.read_head.ensures c.in-Step.is w.in-AfLater.is in
+            let arm = arm-of c.args.steps.now h.hand c.args.at c.field.ensures c.read_head.ensures c.in-Ok.is w.in-AfLater.is in
             later-rest arm _ _ (off-holds (number c.args.met) c.index-k.ensures w.has-in-AfLater.result w.has-in-AfLater.ensures w.if-has-2.false) _;
       }) w.from-is w.fault-is)
       | walk-in-ArOn+else-has-5 w ↦ begun (rest-as _ _ _ _ _ _ _ _ (record {
         off = off-walk _ _ (off-holds (number c.args.met) c.index-k.ensures w.has-in-ArOn.result w.has-in-ArOn.ensures w.if-has-5.false);
         is = λ {image} {table} {side} h.
-            let arm = arm-of c.args.steps.now h.hand c.args.at c.field.ensures c.read_head.ensures c.in-Step.is w.in-ArOn.is in
+            let arm = arm-of c.args.steps.now h.hand c.args.at c.field.ensures c.read_head.ensures c.in-Ok.is w.in-ArOn.is in
             let op = b-bound c.args.steps.now h.hand (arm-ruled arm).b w.field-b-in-ArOn.ensures w.y_at-bound-in-ArOn.ensures h.stage in
             on-rest arm _ _ (off-holds (number c.args.met) c.index-k.ensures w.has-in-ArOn.result w.has-in-ArOn.ensures w.if-has-5.false) _ _
             (op.reads _ (w.formula-from.ensures.is op.hand));
@@ -493,20 +493,20 @@ pub walk-returns-after-loop-env : goal.walk-returns-after-loop-env
 walk-returns-after-loop-env t c =
     going_end _ _ _ _ _ _ _ _ c.loop-env.invariant c.is_empty.result c.is_empty.ensures c.loop-env-test.false
 
-pub walk-returns-in-Missing : goal.walk-returns-in-Missing
-walk-returns-in-Missing t c =
+pub walk-returns-in-Err-Missing : goal.walk-returns-in-Err-Missing
+walk-returns-in-Err-Missing t c =
     record {
       is = λ {image} {table} {side} w.
           head-missing c.args.steps.now w.hand c.args.at c.field.ensures c.read_head.ensures (number c.args.met) c.args.s _
-          c.in-Missing.is refl;
+          (c.in-Err-Missing.is ∙ ap Err c.in-Err-Missing.field-0-is) refl;
     }
 
-pub walk-returns-in-Wrong : goal.walk-returns-in-Wrong
-walk-returns-in-Wrong t c =
+pub walk-returns-in-Err-Wrong : goal.walk-returns-in-Err-Wrong
+walk-returns-in-Err-Wrong t c =
     record {
       is = λ {image} {table} {side} w.
           head-wrong c.args.steps.now w.hand c.args.at c.field.ensures c.read_head.ensures (number c.args.met) c.args.s
-          c.in-Wrong.is c.wrong.ensures;
+          (c.in-Err-Wrong.is ∙ ap Err c.in-Err-Wrong.field-0-is) c.wrong.ensures;
     }
 
 -- ---- `formula` and `go_on`
@@ -535,7 +535,7 @@ pub formula-returns : goal.formula-returns
 formula-returns t c =
     record {
       is = λ {image} {table} {side} hand.
-          from_start image table c.args.steps.now side _ refl _ (Progress.At c.args.at) c.fresh_walk.ensures (start_is hand c.start-s.ensures)
+          from_start image table c.args.steps.now side _ refl _ (Ok c.args.at) c.fresh_walk.ensures (start_is hand c.start-s.ensures)
           (c.walk.ensures.is (from-its-start hand (omega (arith, c.if-field-lt4.false, c.field.ensures)) c.start-s.ensures));
     }
 

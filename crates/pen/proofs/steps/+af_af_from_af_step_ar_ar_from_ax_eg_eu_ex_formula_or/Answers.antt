@@ -146,7 +146,7 @@ af_step-returns-then-has t c =
     let f = fields h.holding c.entry_at-f.ensures in
     let now = stop-has a.stops a.below c.has.ensures c.if-has.true in (
       wrote-same (af-now-steps a now)
-          (wrote-both (code_wrote Rule.AfNow c.code_of.ensures c.put-on.ensures)
+          (wrote-both (code_wrote Rule.AfNow c.code.ensures c.put-on.ensures)
           (operand-wrote c.args.image.now c.args.table.now c.args.side f.a f.x (omega (arith, rule.x)) c.bound-to.ensures
           c.formula.ensures)),
       a.noted,
@@ -213,7 +213,7 @@ af_step-returns t c =
     let row = h.holding.setup.row in
     let not-now = stop-lacks a.stops a.below c.has.ensures c.if-has.false in (
       wrote-same (af-later-steps a not-now)
-          (wrote-both (code_wrote Rule.AfLater c.code_of-2.ensures c.put-here.ensures)
+          (wrote-both (code_wrote Rule.AfLater c.code-2.ensures c.put-here.ensures)
           (each-end row a.below _ _ _ _ c.loop-env.invariant.0 c.is_empty.result c.is_empty.ensures
           c.loop-env-test.false)),
       c.loop-env.invariant.1,
@@ -280,7 +280,7 @@ ar-returns-then-left-eq0 t c =
 pub ar-returns-then-has : goal.ar-returns-then-has
 ar-returns-then-has t c =
     wrote-same (ar-merges c.args.image.now c.args.table.now c.args.side c.args.e c.args.env _ _ _ (omega (arith, c.if-left-eq0.false)) (walk-has _ _
-    c.has.ensures c.if-has.true)) (code_wrote Rule.ArMerge c.code_of.ensures c.put.ensures)
+    c.has.ensures c.if-has.true)) (code_wrote Rule.ArMerge c.code.ensures c.put.ensures)
 
 pub ar-entry_at-f-requires : goal.ar-entry_at-f-requires
 ar-entry_at-f-requires t c =
@@ -327,7 +327,7 @@ ar-returns-then-has-2 t c =
     let rule = rule-of h in
     let released = stop-has a.stops a.below c.has-2.ensures c.if-has-2.true in
     wrote-same (ar-releases image table side e env _ _ _ (omega (arith, c.if-left-eq0.false)) (walk-lacks _ _ c.has.ensures c.if-has.false) released)
-    (wrote-both (code_wrote Rule.ArRelease c.code_of-then-has-2.ensures c.put-on.ensures)
+    (wrote-both (code_wrote Rule.ArRelease c.code-then-has-2.ensures c.put-on.ensures)
     (wrote-both (operand-wrote image table side f.a f.x (omega (arith, rule.x)) c.bound-to.ensures c.formula-a.ensures)
     (operand-wrote image table side f.b f.y (omega (arith, rule.y)) c.bound-to-then-has-2.ensures c.formula.ensures)))
 
@@ -419,7 +419,7 @@ ar-returns t c =
     let on = stop-lacks a.stops a.below c.has-2.ensures c.if-has-2.false in
     wrote-same (ar-goes image table side e env _ _ _ (omega (arith, c.if-left-eq0.false)) (omega (arith, a.below, row.room)) (walk-lacks _ _ c.has.ensures
     c.if-has.false) c.with-longer.ensures on)
-    (wrote-both (code_wrote Rule.ArOn c.code_of-2.ensures c.put-on-2.ensures)
+    (wrote-both (code_wrote Rule.ArOn c.code-2.ensures c.put-on-2.ensures)
     (wrote-both (operand-wrote image table side f.b f.y (omega (arith, rule.y)) c.bound-to-2.ensures c.formula-here.ensures)
     (each-end row a.below _ _ _ _ c.loop-env.invariant c.is_empty.result c.is_empty.ensures c.loop-env-test.false)))
 
@@ -466,7 +466,7 @@ pub eg-returns-then-has : goal.eg-returns-then-has
 eg-returns-then-has t c =
     going_end c.loop-left.invariant.going (wrote-same (eg-merges c.args.image.now c.args.table.now c.args.side c.args.e c.args.env _ _ _ c.loop-left-test.true
     (walk-has _ _ c.has.ensures c.if-has.true))
-    (code_wrote Rule.EgMerge c.code_of.ensures c.put.ensures))
+    (code_wrote Rule.EgMerge c.code.ensures c.put.ensures))
 
 pub eg-bounds-toward-s : goal.eg-bounds-toward-s
 eg-bounds-toward-s t c =
@@ -509,7 +509,7 @@ eg-loop-left-preserved t c =
           (eg-goes image table side e env _ _ _ c.loop-left-test.true (omega (arith, c.loop-left.invariant.below, c.requires.holding.setup.row.room))
           (walk-lacks _ _
           c.has.ensures c.if-has.false) c.with-walk.ensures c-is)
-          (wrote-both (code_wrote (Rule.EgOn 0) c.code_of-in-loop-left.ensures c.put-on.ensures)
+          (wrote-both (code_wrote (Rule.EgOn 0) c.code-in-loop-left.ensures c.put-on.ensures)
           (wrote-both c.put-chosen.ensures (operand-wrote image table side f.a f.x (omega (arith, rule.x)) c.bound-to.ensures c.formula-here.ensures)));
       below = on.1.0;
       holds = on.1.1;
@@ -588,7 +588,7 @@ eu-returns-then-has t c =
     let nows = collects-of image table side env f.b f.y c.byte-n.ensures c.eu-now.ensures.nows in
     going_end c.loop-left.invariant.going (wrote-same (eu-stops image table side c.args.e env _ _ c.loop-left-test.true c.loop-left.invariant.walk
     (stop-has nows c.loop-left.invariant.below c.has.ensures c.if-has.true))
-    (wrote-both (code_wrote Rule.EuNow c.code_of.ensures c.put-on.ensures)
+    (wrote-both (code_wrote Rule.EuNow c.code.ensures c.put-on.ensures)
     (operand-wrote image table side f.b f.y (omega (arith, rule.y)) c.bound-to.ensures c.formula.ensures)))
 
 pub eu-bounds-toward-s : goal.eu-bounds-toward-s
@@ -632,7 +632,7 @@ eu-loop-left-preserved t c =
     record {
       walk = also c.loop-left.invariant.walk c.loop-left.s;
       going = going_more c.loop-left.invariant.going (eu-goes image table side e env _ _ c.loop-left-test.true c.loop-left.invariant.walk f-not c-is)
-          (wrote-both (code_wrote (Rule.EuLater 0) c.code_of-in-loop-left.ensures c.put-on-in-loop-left.ensures)
+          (wrote-both (code_wrote (Rule.EuLater 0) c.code-in-loop-left.ensures c.put-on-in-loop-left.ensures)
           (wrote-both c.put-chosen.ensures (operand-wrote image table side f.a f.x (omega (arith, rule.x)) c.bound-to-in-loop-left.ensures
           c.formula-here.ensures)));
       below = on.1.0;
@@ -693,7 +693,7 @@ formula-eu-requires t c =
 pub formula-returns-in-True : goal.formula-returns-in-True
 formula-returns-in-True t c =
     let h : InHand _ _ _ _ _ _ _ K.True = in_arm c.requires c.entry_at-f.ensures c.kind_of.ensures c.in-True.is in
-    wrote-same (true-steps h) (code_wrote Rule.True c.code_of.ensures c.put.ensures)
+    wrote-same (true-steps h) (code_wrote Rule.True c.code.ensures c.put.ensures)
 
 pub formula-returns-in-False : goal.formula-returns-in-False
 formula-returns-in-False t c =
@@ -703,12 +703,12 @@ formula-returns-in-False t c =
 pub formula-returns-in-Is : goal.formula-returns-in-Is
 formula-returns-in-Is t c =
     let h : InHand _ _ _ _ _ _ _ K.Is = in_arm c.requires c.entry_at-f.ensures c.kind_of.ensures c.in-Is.is in
-    wrote-same (is-steps h) (code_wrote Rule.Holds c.code_of-in-Is.ensures c.put-in-Is.ensures)
+    wrote-same (is-steps h) (code_wrote Rule.Holds c.code-in-Is.ensures c.put-in-Is.ensures)
 
 pub formula-returns-in-IsNot : goal.formula-returns-in-IsNot
 formula-returns-in-IsNot t c =
     let h : InHand _ _ _ _ _ _ _ K.IsNot = in_arm c.requires c.entry_at-f.ensures c.kind_of.ensures c.in-IsNot.is in
-    wrote-same (is-not-steps h) (code_wrote Rule.HoldsNot c.code_of-in-IsNot.ensures c.put-in-IsNot.ensures)
+    wrote-same (is-not-steps h) (code_wrote Rule.HoldsNot c.code-in-IsNot.ensures c.put-in-IsNot.ensures)
 
 pub formula-returns-in-And : goal.formula-returns-in-And
 formula-returns-in-And t c =
@@ -718,7 +718,7 @@ formula-returns-in-And t c =
     let f = fields c.requires c.entry_at-f.ensures in
     let h : InHand _ _ _ _ _ _ _ K.And = in_arm c.requires c.entry_at-f.ensures c.kind_of.ensures c.in-And.is in
     wrote-same (and-steps h)
-    (wrote-both (code_wrote Rule.And c.code_of-in-And.ensures c.put-on.ensures)
+    (wrote-both (code_wrote Rule.And c.code-in-And.ensures c.put-on.ensures)
     (wrote-both (plain-wrote image table side f.a _ c.formula-a.ensures) (plain-wrote image table side f.b _ c.formula.ensures)))
 
 pub formula-returns-in-Or : goal.formula-returns-in-Or
@@ -779,7 +779,7 @@ or-returns-then-holds_on t c =
     let h = c.requires in
     let f = fields h.holding c.entry_at-f.ensures in
     wrote-same (left-steps h (told-true image table side c.args.env f.a c.holds_on.ensures c.if-holds_on.true))
-    (wrote-both (code_wrote Rule.OrLeft c.code_of.ensures c.put-on.ensures) (plain-wrote image table side f.a _ c.formula.ensures))
+    (wrote-both (code_wrote Rule.OrLeft c.code.ensures c.put-on.ensures) (plain-wrote image table side f.a _ c.formula.ensures))
 
 pub or-formula-requires-2 : goal.or-formula-requires-2
 or-formula-requires-2 t c =
@@ -799,7 +799,7 @@ or-returns t c =
     let h = c.requires in
     let f = fields h.holding c.entry_at-f.ensures in
     wrote-same (right-steps h (told-false image table side c.args.env f.a c.holds_on.ensures c.if-holds_on.false))
-    (wrote-both (code_wrote Rule.OrRight c.code_of-2.ensures c.put-on-2.ensures) (plain-wrote image table side f.b _
+    (wrote-both (code_wrote Rule.OrRight c.code-2.ensures c.put-on-2.ensures) (plain-wrote image table side f.b _
     c.formula-2.ensures))
 
 -- ---- `ax` and `ex`: at each successor, and at a chosen one
@@ -867,7 +867,7 @@ ax-returns t c =
     let row = h.holding.setup.row in
     let below = start-below h.holding rule.t in
     wrote-same (ax-steps h)
-    (wrote-both (code_wrote Rule.Ax c.code_of.ensures c.put-here.ensures)
+    (wrote-both (code_wrote Rule.Ax c.code.ensures c.put-here.ensures)
     (each-end row below _ _ _ _ c.loop-env.invariant c.is_empty.result c.is_empty.ensures c.loop-env-test.false))
 
 pub ex-returns-then-out-at : goal.ex-returns-then-out-at
@@ -919,6 +919,6 @@ ex-returns t c =
     let s-is = start_is h.holding f c.stage_of-s.ensures in
     let chosen = choice-of image table side env f.a f.x s-is c.ex-c.ensures in
     wrote-same (ex-steps h _ chosen)
-    (wrote-both (code_wrote (Rule.Ex 0) c.code_of.ensures c.put-on.ensures)
+    (wrote-both (code_wrote (Rule.Ex 0) c.code.ensures c.put-on.ensures)
     (wrote-both c.put-chosen.ensures (operand-wrote image table side f.a f.x (omega (arith, rule.x)) c.bound-to.ensures
     c.formula.ensures)))
