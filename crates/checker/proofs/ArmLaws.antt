@@ -21,6 +21,7 @@ use mathlib.Core.Logic.{⊎_elim}
 use lib.Dec.{T, eqb, ltb}
 use lib.ListN.{length}
 use borrow.Author.Tests.{lt-ltb, le-ltb}
+use Rattle.sets.specs.declared.Set.{Set}
 use Rattle.model.specs.Decides.{Decides}
 use Rattle.model.specs.Formula.{Env, bind, pick, value}
 use Rattle.sets.specs.Member.{Has}
@@ -45,7 +46,7 @@ use Rattle.hand.specs.Environment.{env_of, Bound}
 use Rattle.hand.specs.declared.env.Env.{Env as Slots}
 use Rattle.hand.specs.Side.{kind_on, number_of}
 use Rattle.hand.specs.Hand.{start_as, start_in}
-use Rattle.hand.specs.Setup.{most_entries, kind_in, field_at, entry_at, entry_of}
+use Rattle.hand.specs.Setup.{most_entries, kind_in, entry_at, entry_of}
 use Rattle.hand.specs.declared.setup.Entry.{Entry}
 use Rattle.hand.proofs.EnvironmentLaws.{stage-value, variable-value}
 use Rattle.hand.proofs.HandLaws.{leads-is}
@@ -117,7 +118,7 @@ bound-inside {env} {env'} {x} {t} {n} b small all h v =
 
 -- ---- an entry in hand
 
-module _ {image table sets entries : List ℕ} {side e : ℕ} {env : Env} (hand : InHand image table side sets entries e env) where
+module _ {image table : List ℕ} {sets : List Set} {entries : List Entry} {side e : ℕ} {env : Env} (hand : InHand image table side sets entries e env) where
   -- There is room for its number.
   pub room : e < most_entries
   room = omega (arith, hand.below, hand.lent.few)
@@ -126,35 +127,35 @@ module _ {image table sets entries : List ℕ} {side e : ℕ} {env : Env} (hand 
   pub entry-is : entry_at entries e ≡ entry_of image side (record_at table e)
   entry-is = hand.lent.entry e hand.below
 
-  pub kind-is : field_at entries 0 e ≡ kind_in side (record_at table e)
-  unfolding entry_at entry_of
+  pub kind-is : (entry_at entries e).kind ≡ kind_in side (record_at table e)
+  unfolding entry_of
   kind-is = ap (λ (p : Entry). p.kind) entry-is
 
-  pub a-is : field_at entries 1 e ≡ (record_at table e).a
-  unfolding entry_at entry_of
+  pub a-is : (entry_at entries e).a ≡ (record_at table e).a
+  unfolding entry_of
   a-is = ap (λ (p : Entry). p.a) entry-is
 
-  pub b-is : field_at entries 2 e ≡ (record_at table e).b
-  unfolding entry_at entry_of
+  pub b-is : (entry_at entries e).b ≡ (record_at table e).b
+  unfolding entry_of
   b-is = ap (λ (p : Entry). p.b) entry-is
 
-  pub x-is : field_at entries 3 e ≡ (record_at table e).x
-  unfolding entry_at entry_of
+  pub x-is : (entry_at entries e).x ≡ (record_at table e).x
+  unfolding entry_of
   x-is = ap (λ (p : Entry). p.x) entry-is
 
-  pub y-is : field_at entries 4 e ≡ (record_at table e).y
-  unfolding entry_at entry_of
+  pub y-is : (entry_at entries e).y ≡ (record_at table e).y
+  unfolding entry_of
   y-is = ap (λ (p : Entry). p.y) entry-is
 
-  pub t-is : field_at entries 5 e ≡ (record_at table e).t
-  unfolding entry_at entry_of
+  pub t-is : (entry_at entries e).t ≡ (record_at table e).t
+  unfolding entry_of
   t-is = ap (λ (p : Entry). p.t) entry-is
 
   -- Its walk starts where the rules start it, at a stage.
-  pub start_is : {s : ℕ} → Started (field_at entries 0 e) (field_at entries 5 e) env s → s ≡ start_in (record_at table e) env
+  pub start_is : {s : ℕ} → Started ((entry_at entries e).kind) ((entry_at entries e).t) env s → s ≡ start_in (record_at table e) env
   start_is {s} h =
       h.is
-      ∙ ap (λ (k : ℕ). pick (ltb k 6) 0 (value env (term_of (field_at entries 5 e)))) kind-is
+      ∙ ap (λ (k : ℕ). pick (ltb k 6) 0 (value env (term_of ((entry_at entries e).t)))) kind-is
       ∙ ap (λ (t : ℕ). pick (ltb (kind_in side (record_at table e)) 6) 0 (value env (term_of t))) t-is
       ∙ start-number (kind_on side (kind_of (record_at table e).kind)) (value env (term_of (record_at table e).t))
       ∙ start-side side (kind_of (record_at table e).kind) (value env (term_of (record_at table e).t))
@@ -163,26 +164,26 @@ module _ {image table sets entries : List ℕ} {side e : ℕ} {env : Env} (hand 
   term-inside {t} (a_stage h) = omega (arith, stage-value env t (omega (arith, hand.lent.small.stages)))
   term-inside {t} (a_variable l m) = subst (λ (s : ℕ). s < stages_of image) (variable-value env t l) (hand.inside _)
 
-  pub start-inside : {s : ℕ} → Started (field_at entries 0 e) (field_at entries 5 e) env s → s < stages_of image
+  pub start-inside : {s : ℕ} → Started ((entry_at entries e).kind) ((entry_at entries e).t) env s → s < stages_of image
   start-inside {s} h = ⊎_elim
-      (λ l. omega (arith, hand.lent.some, h.is, ap (λ (b : Bool). pick b 0 (value env (term_of (field_at entries 5 e)))) (lt-ltb (field_at entries 0 e) 6 l)))
+      (λ l. omega (arith, hand.lent.some, h.is, ap (λ (b : Bool). pick b 0 (value env (term_of ((entry_at entries e).t)))) (lt-ltb ((entry_at entries e).kind) 6 l)))
       (λ l. subst (λ (z : ℕ). z < stages_of image)
-      (sym (h.is ∙ ap (λ (b : Bool). pick b 0 (value env (term_of (field_at entries 5 e)))) (le-ltb (field_at entries 0 e) 6 l)))
+      (sym (h.is ∙ ap (λ (b : Bool). pick b 0 (value env (term_of ((entry_at entries e).t)))) (le-ltb ((entry_at entries e).kind) 6 l)))
       (subst (λ (t : ℕ). value env (term_of t) < stages_of image) (sym t-is) (term-inside
       (modal-term image e (record_at table e) (kind_on side (kind_of (record_at table e).kind)) (subst (λ (k : ℕ). 6 ≤ k) kind-is l)
       (ruled-side image e (record_at table e) side (kind_of (record_at table e).kind) (hand.lent.ruled e hand.below))))))
-      (side? (field_at entries 0 e) 6)
+      (side? ((entry_at entries e).kind) 6)
 
 -- ---- operands
 
 -- An operand of e is in hand, and its entry is read for it.
-pub record Operand (image table : List ℕ) (side : ℕ) (sets entries steps : List ℕ) (e o : ℕ) (env : Env) (read : Reader) : Type 0 where
+pub record Operand (image table : List ℕ) (side : ℕ) (sets : List Set) (entries : List Entry) (steps : List ℕ) (e o : ℕ) (env : Env) (read : Reader) : Type 0 where
   pub hand : InHand image table side sets entries o env
   pub lower : o < e
   pub reads : {p : Progress} (at : ℕ) → p ≡ read_entry image table steps side o env at → p ≡ read at
 
 -- In the same variables.
-pub operand : {image table sets entries : List ℕ} {side e : ℕ} {env : Env} (steps : List ℕ) → InHand image table side sets entries e env
+pub operand : {image table : List ℕ} {sets : List Set} {entries : List Entry} {side e : ℕ} {env : Env} (steps : List ℕ) → InHand image table side sets entries e env
     → {o f i : ℕ} → o ≡ f → f ≡ i → i < e → Operand image table side sets entries steps e o env (read_operand image table steps side e i env)
 operand {image} {table} {sets} {entries} {side} {e} {env} steps hand {o} {f} {i} o_is f-is low = record {
   hand = record { lent = hand.lent; below = omega (arith, hand.below); inside = hand.inside };
@@ -192,7 +193,7 @@ operand {image} {table} {sets} {entries} {side} {e} {env} steps hand {o} {f} {i}
 }
 
 -- With one of them bound to a stage.
-pub operand_at : {image table sets entries : List ℕ} {side e : ℕ} {env env' : Slots} (steps : List ℕ)
+pub operand_at : {image table : List ℕ} {sets : List Set} {entries : List Entry} {side e : ℕ} {env env' : Slots} (steps : List ℕ)
     → InHand image table side sets entries e (env_of env) → {o f i z x t : ℕ} → o ≡ f → f ≡ i → i < e → Bound env z t env' → z ≡ x → x < 4
     → t < stages_of image
     → Operand image table side sets entries steps e o (env_of env') (read_operand image table steps side e i (bind (env_of env) x t))
@@ -210,54 +211,54 @@ operand_at {image} {table} {sets} {entries} {side} {e} {env} {env'} steps hand {
 }
 
 -- The a and the b of an entry, with its variables as they are, and with x and y at a stage.
-module _ {image table sets entries : List ℕ} {side e : ℕ} (steps : List ℕ) where
-  pub a-operand : {env : Env} → InHand image table side sets entries e env → (record_at table e).a < e → {o : ℕ} → o ≡ field_at entries 1 e
+module _ {image table : List ℕ} {sets : List Set} {entries : List Entry} {side e : ℕ} (steps : List ℕ) where
+  pub a-operand : {env : Env} → InHand image table side sets entries e env → (record_at table e).a < e → {o : ℕ} → o ≡ (entry_at entries e).a
       → Operand image table side sets entries steps e o env (read_operand image table steps side e (record_at table e).a env)
   a-operand hand low o_is = operand steps hand o_is (a-is hand) low
 
-  pub b-operand : {env : Env} → InHand image table side sets entries e env → (record_at table e).b < e → {o : ℕ} → o ≡ field_at entries 2 e
+  pub b-operand : {env : Env} → InHand image table side sets entries e env → (record_at table e).b < e → {o : ℕ} → o ≡ (entry_at entries e).b
       → Operand image table side sets entries steps e o env (read_operand image table steps side e (record_at table e).b env)
   b-operand hand low o_is = operand steps hand o_is (b-is hand) low
 
   module _ {env env' : Slots} {t : ℕ} (hand : InHand image table side sets entries e (env_of env)) where
-    pub a-bound : (record_at table e).a < e → {o : ℕ} → o ≡ field_at entries 1 e → Bound env (field_at entries 3 e) t env' → t < stages_of image
+    pub a-bound : (record_at table e).a < e → {o : ℕ} → o ≡ (entry_at entries e).a → Bound env ((entry_at entries e).x) t env' → t < stages_of image
         → Operand image table side sets entries steps e o (env_of env') (read_a image table steps side e (record_at table e) (env_of env) t)
     a-bound low o_is b h = operand_at steps hand o_is (a-is hand) low b (x-is hand) (hand.lent.small.x e) h
 
-    pub b-bound : (record_at table e).b < e → {o : ℕ} → o ≡ field_at entries 2 e → Bound env (field_at entries 4 e) t env' → t < stages_of image
+    pub b-bound : (record_at table e).b < e → {o : ℕ} → o ≡ (entry_at entries e).b → Bound env ((entry_at entries e).y) t env' → t < stages_of image
         → Operand image table side sets entries steps e o (env_of env') (read_b image table steps side e (record_at table e) (env_of env) t)
     b-bound low o_is b h = operand_at steps hand o_is (b-is hand) low b (y-is hand) (hand.lent.small.y e) h
 
 -- A formula that is no leaf is on its walk from its start.
-pub from-its-start : {image table sets entries : List ℕ} {side e : ℕ} {env : Env} {s : ℕ} → InHand image table side sets entries e env
-    → 4 ≤ field_at entries 0 e → Started (field_at entries 0 e) (field_at entries 5 e) env s → OnWalk image table side sets entries e env s
+pub from-its-start : {image table : List ℕ} {sets : List Set} {entries : List Entry} {side e : ℕ} {env : Env} {s : ℕ} → InHand image table side sets entries e env
+    → 4 ≤ (entry_at entries e).kind → Started ((entry_at entries e).kind) ((entry_at entries e).t) env s → OnWalk image table side sets entries e env s
 from-its-start hand deep h = record { hand = hand; stage = start-inside hand h; deep = deep }
 
 -- What a reader asks, of the setup at hand.
-pub handed : {image table sets entries : List ℕ} {side e : ℕ} {env : Env} → InHand image table side sets entries e env → Handed sets entries e env
+pub handed : {image table : List ℕ} {sets : List Set} {entries : List Entry} {side e : ℕ} {env : Env} → InHand image table side sets entries e env → Handed sets entries e env
 handed h = record { image = _; table = _; side = _; hand = h }
 
-pub walking : {image table sets entries : List ℕ} {side e : ℕ} {env : Env} {s : ℕ} → OnWalk image table side sets entries e env s
+pub walking : {image table : List ℕ} {sets : List Set} {entries : List Entry} {side e : ℕ} {env : Env} {s : ℕ} → OnWalk image table side sets entries e env s
     → Walking sets entries e env s
 walking w = record { image = _; table = _; side = _; walk = w }
 
 -- The walk at a successor.
-pub onto : {image table sets entries : List ℕ} {side e : ℕ} {env : Env} {s : ℕ} (c : ℕ) → OnWalk image table side sets entries e env s
+pub onto : {image table : List ℕ} {sets : List Set} {entries : List Entry} {side e : ℕ} {env : Env} {s : ℕ} (c : ℕ) → OnWalk image table side sets entries e env s
     → T ((graph_of image).next s c) → OnWalk image table side sets entries e env c
 onto {s = s} c w h = record { hand = w.hand; stage = (w.hand.lent.small.graph.inside s c h).1; deep = w.deep }
 
 -- A stage is below the width.
-pub stage-room : {image table sets entries : List ℕ} {side e : ℕ} {env : Env} {s : ℕ} → OnWalk image table side sets entries e env s → s < width
+pub stage-room : {image table : List ℕ} {sets : List Set} {entries : List Entry} {side e : ℕ} {env : Env} {s : ℕ} → OnWalk image table side sets entries e env s → s < width
 stage-room w = omega (arith, w.stage, w.hand.lent.small.stages)
 
 -- ---- a step whose head is read
 
-pub record Arm (image table : List ℕ) (side : ℕ) (sets entries steps : List ℕ) (e : ℕ) (env : Env) (at : ℕ) (q : Rule) (next : ℕ) : Type 0 where
+pub record Arm (image table : List ℕ) (side : ℕ) (sets : List Set) (entries : List Entry) (steps : List ℕ) (e : ℕ) (env : Env) (at : ℕ) (q : Rule) (next : ℕ) : Type 0 where
   pub hand : InHand image table side sets entries e env
   pub head : head_of steps at (kind_in side (record_at table e)) ≡ Ok (step_by q next)
 
-module _ {image table sets entries : List ℕ} (steps : List ℕ) {side e : ℕ} {env : Env} (hand : InHand image table side sets entries e env) {kind : ℕ} (at : ℕ)
-    (is : kind ≡ field_at entries 0 e) {h : Head} (h-is : h ≡ head_of steps at kind) where
+module _ {image table : List ℕ} {sets : List Set} {entries : List Entry} (steps : List ℕ) {side e : ℕ} {env : Env} (hand : InHand image table side sets entries e env) {kind : ℕ} (at : ℕ)
+    (is : kind ≡ (entry_at entries e).kind) {h : Head} (h-is : h ≡ head_of steps at kind) where
   head-of : h ≡ head_of steps at (kind_in side (record_at table e))
   head-of = h-is ∙ ap (head_of steps at) (is ∙ kind-is hand)
 
@@ -275,13 +276,13 @@ module _ {image table sets entries : List ℕ} (steps : List ℕ) {side e : ℕ}
   head-wrong set s f p =
       told-wrong p ∙ step-wrong image table steps side e refl env set s at refl refl head-of f
 
-module _ {image table sets entries steps : List ℕ} {side e : ℕ} {env : Env} {at : ℕ} {q : Rule} {next : ℕ}
+module _ {image table : List ℕ} {sets : List Set} {entries : List Entry} {steps : List ℕ} {side e : ℕ} {env : Env} {at : ℕ} {q : Rule} {next : ℕ}
     (arm : Arm image table side sets entries steps e env at q next) where
   for-kind : kind_for q ≡ kind_in side (record_at table e)
   for-kind = (head-begins steps at (kind_in side (record_at table e)) arm.head).1
 
   -- The rule is for the kind in the entry's field.
-  pub arm-kind : kind_for q ≡ field_at entries 0 e
+  pub arm-kind : kind_for q ≡ (entry_at entries e).kind
   arm-kind = for-kind ∙ sym (kind-is arm.hand)
 
   pub not-one : kind_for q ≡ 1 → ⊥
@@ -323,7 +324,7 @@ module _ {image table sets entries steps : List ℕ} {side e : ℕ} {env : Env} 
     arm-ends fault f none = arm-proves f (told_at fault arm-inside ∙ none)
 
 -- The test for a chosen stage asks whether it is a successor.
-pub next-is : {image table sets entries : List ℕ} {side e : ℕ} {env : Env} {s k : ℕ} (c : ℕ) {b : Bool} → OnWalk image table side sets entries e env s
+pub next-is : {image table : List ℕ} {sets : List Set} {entries : List Entry} {side e : ℕ} {env : Env} {s k : ℕ} (c : ℕ) {b : Bool} → OnWalk image table side sets entries e env s
     → k ≡ s → Decides b (Has (held sets k) c) → b ≡ (graph_of image).next s c
 next-is {image} {sets = sets} {s = s} c w k-is d =
     leads-is image s c (next-set w.hand.lent.all w.stage (ap (held sets) k-is)) d

@@ -17,9 +17,12 @@ use mathlib.Core.List.{List, [], ◌∷◌}
 use mathlib.Core.Logic.{inl, inr, ⊎_elim}
 use lib.Dec.{T, eqb, ltb}
 use lib.ListN.{length, replicate, length-replicate, get_or-eq_default}
+use Rattle.hand.specs.declared.setup.Entry.{Entry}
+use Rattle.sets.specs.declared.Set.{Set}
 use Rattle.model.specs.Formula.{Env, pick}
 use Rattle.sets.specs.Number.{width}
 use Rattle.sets.proofs.LawsMember.{side?}
+use Rattle.sets.specs.Number.{number as of_set}
 use Rattle.format.specs.Bytes.{byte_at}
 use Rattle.format.specs.Refusal.{number, Condition, Given, Clear}
 use Rattle.format.specs.Image.{stages_of, sets_in, graph_of}
@@ -42,7 +45,7 @@ use Rattle.rules.specs.declared.Stop.{Stop}
 use Rattle.rules.proofs.Accepted.{ends-inside}
 use Rattle.hand.specs.Environment.{env_of, started}
 use Rattle.hand.specs.Side.{sided}
-use Rattle.hand.specs.Setup.{Decoded, Prepared, entry_bytes}
+use Rattle.hand.specs.Setup.{Decoded, Prepared, most_entries}
 use Rattle.hand.proofs.SetupLaws.{all-sets}
 use Rattle.checker.specs.Reading.{Small, Lent, InHand, read_entry}
 use Rattle.checker.specs.Header.{side_of, header_conditions, HeaderFits, NamesQuestion}
@@ -85,23 +88,23 @@ module _ (image table : List ℕ) (clear : Clear (setup_conditions image table))
   }
 
 -- Its sets decoded and its entries prepared are what the readers are lent.
-pub setup-lent : {image table sets entries : List ℕ} {side count m : ℕ} → Clear (setup_conditions image table) → count ≡ sets_in image
-    → m ≡ entries_of table → Decoded image count (replicate 1088 0) sets → Prepared image table m side (replicate entry_bytes 0) entries
-    → Lent image table side sets entries
-setup-lent {image} {table} {m = m} clear count-is m-is d p =
+pub setup-lent : {image table : List ℕ} {sets : List Set} {entries : List Entry} {side count m : ℕ} → Clear (setup_conditions image table) → count ≡ sets_in image
+    → m ≡ entries_of table → (empty : Set) → of_set empty ≡ 0 → Decoded image count (replicate 1088 empty) sets
+    → (first : Entry) → Prepared image table m side (replicate most_entries first) entries → Lent image table side sets entries
+setup-lent {image} {table} {m = m} clear count-is m-is empty none d first p =
     let image-clear = of_image image table clear in
     record {
       small = small-setup image table clear;
       some = (sizes image image-clear).some;
-      all = all-sets {n = 1088} (sizes image image-clear) (stable (length-fits? image) image-clear.1.1.0) (omega arith) count-is d;
+      all = all-sets {n = 1088} empty (sizes image image-clear) (stable (length-fits? image) image-clear.1.1.0) (omega arith) count-is none d;
       few = (ReadableLaws.entries image table (of-table image table clear)).most;
       entry = λ e h. p.entries e (omega arith)
-          (omega (arith, (ReadableLaws.entries image table (of-table image table clear)).most)) (length-replicate {A = ℕ} entry_bytes 0);
+          (omega (arith, (ReadableLaws.entries image table (of-table image table clear)).most)) (length-replicate most_entries first);
       ruled = ruled image table clear;
     }
 
 -- The goal is in hand, with variable 0 at the start and the others at stage 0.
-pub goal-hand : {image table sets entries : List ℕ} {goal start side : ℕ} → Clear (question_conditions image table goal start)
+pub goal-hand : {image table : List ℕ} {sets : List Set} {entries : List Entry} {goal start side : ℕ} → Clear (question_conditions image table goal start)
     → Lent image table side sets entries → InHand image table side sets entries goal (env_of (record { slots = start ∷ 0 ∷ 0 ∷ 0 ∷ [] }))
 goal-hand {image} {table} {goal = goal} {start = start} clear lent = record {
   lent = lent;

@@ -6,21 +6,19 @@
 --     each_start, each-stage, each_next, each-end
 --                          the loop over the successors of a stage of an image
 --     each-stops           a fault on the way is the loop's answer
-use Prim.Native.Nat.{ℕ, zero, suc, ◌-◌, ◌^◌, ◌≤◌, ◌<◌}
+use Prim.Native.Nat.{ℕ, zero, suc, ◌^◌, ◌≤◌, ◌<◌}
 use native.Mathlib.Omega.{arith}
 use mathlib.Core.Path.{◌≡◌, refl, sym, ap, ap₂, subst, ◌∙◌, fun_ext}
 use mathlib.Core.Bool.{Bool, true, false}
 use mathlib.Core.List.{List}
 use mathlib.Core.Logic.{◌↔◌, ◌≢◌, ⊎_elim}
-use lib.Bits.{bit_and}
 use lib.Count.{count_trailing_zeros}
 use lib.Dec.{T}
-use Rattle.model.specs.Decides.{Decides, decided, refuted}
+use Rattle.sets.specs.Walk.{Turn}
 use Rattle.sets.specs.Member.{Has, Empty}
 use Rattle.sets.specs.Number.{width}
 use Rattle.sets.proofs.LawsMember.{has-test, empty-zero, side?}
 use Rattle.sets.proofs.LawsLowest.{lowest-le, lowest-lt, lowest-has, has_rest, rest-small}
-use Rattle.sets.proofs.LawsWalk.{Turn}
 use Rattle.format.specs.Image.{stages_of, member, graph_of}
 use Rattle.rules.specs.Reading.{Reader, onward, visit, through, Progress}
 use Rattle.rules.proofs.Faults.{skipped}
@@ -121,11 +119,6 @@ module _ (n : ℕ) (next : ℕ → Bool) (inside : (t : ℕ) → T (next t) → 
           (λ l. in-turn came (through j next read) (visit (next j) (read j)) (up j l) (sym (stays (visit (next j) (read j)))))
           (side? j g.from)
 
--- A turn, as the code's tests and calls tell it.
-pub turn-of : {left k left' : ℕ} (e : Bool) → Decides e (Empty left) → e ≡ false → k ≡ count_trailing_zeros width left → left' ≡ bit_and left (left - 1)
-    → Turn left k left'
-turn-of {left} e d t k-is rest-is = record { some = refuted (Empty left) d t; lowest = k-is; others = rest-is }
-
 -- ---- the successors of a stage
 
 module _ {image table : List ℕ} (small : Small image table) (s : ℕ) (read : ℕ → Reader) (came : Progress) where
@@ -145,9 +138,8 @@ module _ {image table : List ℕ} (small : Small image table) (s : ℕ) (read : 
     pub each_next : {p : Progress} → p ≡ onward here (read k) → Each left' p
     each_next e = turns_next (stages_of image) ((graph_of image).next s) inside read came g turn e
 
-  pub each-end : {left : ℕ} {here : Progress} → Each left here → (e : Bool) → Decides e (Empty left) → e ≡ true
-      → here ≡ onward came (through (stages_of image) ((graph_of image).next s) read)
-  each-end {left} g e d f = turns-end (stages_of image) ((graph_of image).next s) inside read came g (decided (Empty left) d f)
+  pub each-end : {left : ℕ} {here : Progress} → Each left here → Empty left → here ≡ onward came (through (stages_of image) ((graph_of image).next s) read)
+  each-end g none = turns-end (stages_of image) ((graph_of image).next s) inside read came g none
 
   pub each-stops : {left : ℕ} {here : Progress} → Each left here → ((k : Reader) → onward here k ≡ here)
       → here ≡ onward came (through (stages_of image) ((graph_of image).next s) read)

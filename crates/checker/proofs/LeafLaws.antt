@@ -10,6 +10,8 @@ use mathlib.Core.Path.{◌≡◌, refl, sym, ap, subst, ◌∙◌}
 use mathlib.Core.Bool.{Bool, true, false, not}
 use mathlib.Core.List.{List}
 use lib.ListN.{length}
+use Rattle.hand.specs.declared.setup.Entry.{Entry}
+use Rattle.sets.specs.declared.Set.{Set}
 use Rattle.model.specs.Formula.{Env}
 use Rattle.format.specs.Table.{record_at}
 use Rattle.rules.specs.Table.{kind_for}
@@ -17,7 +19,7 @@ use Rattle.rules.specs.declared.Rule.{Rule}
 use Rattle.std.specs.Prelude.{Ok}
 use Rattle.rules.specs.Reading.{Progress}
 use Rattle.hand.specs.Hand.{start_in, atom_in}
-use Rattle.hand.specs.Setup.{field_at, entry_at, atom_from}
+use Rattle.hand.specs.Setup.{entry_at, atom_from}
 use Rattle.hand.proofs.EntryLaws.{entry-atom}
 use Rattle.checker.specs.Reading.{Past, told, read_entry, read_along}
 use Rattle.checker.proofs.ConditionLaws.{for-true, for-holds, for-holds-not}
@@ -29,7 +31,7 @@ pub whole : (image table steps : List ℕ) (side e : ℕ) (env : Env) (at : ℕ)
     → p ≡ read_along image table steps side e env 0 (start_in (record_at table e) env) at → p ≡ read_entry image table steps side e env at
 whole image table steps side e env at p-is = from_start image table steps side e refl env (Ok at) refl refl p-is
 
-module _ {image table sets entries steps : List ℕ} {side e : ℕ} {env : Env} {at : ℕ} {q : Rule} {next : ℕ}
+module _ {image table : List ℕ} {sets : List Set} {entries : List Entry} {steps : List ℕ} {side e : ℕ} {env : Env} {at : ℕ} {q : Rule} {next : ℕ}
     (arm : Arm image table side sets entries steps e env at q next) where
   as-rule : {p : Rule} → q ≡ p → Arm image table side sets entries steps e env at p next
   as-rule f = subst (λ (p : Rule). Arm image table side sets entries steps e env at p next) f arm
@@ -38,17 +40,17 @@ module _ {image table sets entries steps : List ℕ} {side e : ℕ} {env : Env} 
   s = start_in (record_at table e) env
 
   -- "True" is proved.
-  pub leaf-true : (fault : ℕ) → field_at entries 0 e ≡ 0 → told (length steps) next fault ≡ read_entry image table steps side e env at
+  pub leaf-true : (fault : ℕ) → (entry_at entries e).kind ≡ 0 → told (length steps) next fault ≡ read_entry image table steps side e env at
   leaf-true fault is = whole image table steps side e env at (arm-ends (as-rule (for-true q (arm-kind arm ∙ is))) 0 s fault refl refl)
 
   module _ {b : Bool} (b-is : b ≡ atom_from sets (entry_at entries e) env) where
     -- The test of the atom is the record's.
-    atom-is : field_at entries 0 e / 2 ≡ 1 → b ≡ atom_in image (record_at table e) env
+    atom-is : (entry_at entries e).kind / 2 ≡ 1 → b ≡ atom_in image (record_at table e) env
     atom-is h =
         b-is ∙ entry-atom side (record_at table e) env arm.hand.lent.all (entry-is arm.hand) (ap (λ (k : ℕ). k / 2) (sym (kind-is arm.hand)) ∙ h)
 
     -- An atom.
-    module _ (is : field_at entries 0 e ≡ 2) where
+    module _ (is : (entry_at entries e).kind ≡ 2) where
       holds : Arm image table side sets entries steps e env at Rule.Holds next
       holds = as-rule (for-holds q (arm-kind arm ∙ is))
 
@@ -59,7 +61,7 @@ module _ {image table sets entries steps : List ℕ} {side e : ℕ} {env : Env} 
       holds-fails f p = whole image table steps side e env at (arm-fails holds 0 s (sym (atom-is (omega arith)) ∙ f) p)
 
     -- Its negation.
-    module _ (some : field_at entries 0 e ≡ 0 → ⊥) (other : field_at entries 0 e ≡ 2 → ⊥) (low : field_at entries 0 e < 4) where
+    module _ (some : (entry_at entries e).kind ≡ 0 → ⊥) (other : (entry_at entries e).kind ≡ 2 → ⊥) (low : (entry_at entries e).kind < 4) where
       three : kind_for q ≡ 3
       three = omega (arith, arm-kind arm, not-one arm, some, other)
 

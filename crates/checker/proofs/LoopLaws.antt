@@ -8,18 +8,19 @@
 --     going-grows                                             one stage more is then on the walk
 use Prim.Native.Nat.{ℕ, suc, ◌^◌, ◌≤◌, ◌<◌}
 use mathlib.Core.Path.{◌≡◌, refl, sym, ap, subst₂, ◌∙◌}
-use mathlib.Core.Bool.{Bool, not, true}
+use mathlib.Core.Bool.{not, true}
 use mathlib.Core.List.{List}
 use lib.Bits.{bit_or}
 use lib.Count.{ones}
 use lib.Dec.{T}
 use lib.ListN.{length}
-use Rattle.model.specs.Decides.{Decides}
+use Rattle.hand.specs.declared.setup.Entry.{Entry}
+use Rattle.sets.specs.declared.Set.{Set}
+use Rattle.sets.specs.Walk.{Turn}
 use Rattle.model.specs.Formula.{Env}
 use Rattle.sets.specs.Member.{Has, Empty}
 use Rattle.sets.specs.Number.{single, width}
 use Rattle.sets.specs.Row.{held}
-use Rattle.sets.proofs.LawsWalk.{Turn}
 use Rattle.format.specs.Image.{member, graph_of}
 use Rattle.format.specs.Table.{record_at}
 use Rattle.rules.specs.Reading.{Reader, onward, Progress}
@@ -32,7 +33,7 @@ use Rattle.checker.proofs.WalkLaws.{grows, along-on}
 use Rattle.checker.proofs.EachLaws.{Each, each_start, each-stage, each_next, each-end, each-stops}
 use Rattle.checker.proofs.ArmLaws.{Arm, onto, stage-room, arm-inside, arm-proves}
 
-module _ (sets entries steps : List ℕ) (e : ℕ) (env : Env) (s : ℕ) where
+module _ (sets : List Set) (entries : List Entry) (steps : List ℕ) (e : ℕ) (env : Env) (s : ℕ) where
   -- The successors that are left of a row's set are those of the stage.
   start-with : {image table : List ℕ} {side : ℕ} (w : OnWalk image table side sets entries e env s) (read : ℕ → Reader) (came : Progress) {k left : ℕ}
       → left < 2 ^ width → k ≡ s → left ≡ held sets k → Each w.hand.lent.small s read came left came
@@ -69,11 +70,10 @@ module _ (sets entries steps : List ℕ) (e : ℕ) (env : Env) (s : ℕ) where
           (goes fault (read_a image table steps side e (record_at table e) env t) inside refl (read.is w (at_stage w).0));
     }
 
-  pub at-end : {at left here fault : ℕ} → AtEach at left here fault → (none : Bool) → Decides none (Empty left) → none ≡ true
-      → EachRead sets entries steps e env s at fault here
-  at-end {at} g none d f = record {
+  pub at-end : {at left here fault : ℕ} → AtEach at left here fault → Empty left → EachRead sets entries steps e env s at fault here
+  at-end {at} g none = record {
     is = λ {image} {table} {side} w.
-        each-end w.hand.lent.small s (read_a image table steps side e (record_at table e) env) (Ok at) (g.is w) none d f;
+        each-end w.hand.lent.small s (read_a image table steps side e (record_at table e) env) (Ok at) (g.is w) none;
   }
 
   pub at_stops : {at left here fault : ℕ} → AtEach at left here fault → length steps < here → EachRead sets entries steps e env s at fault here
@@ -139,11 +139,10 @@ module _ (sets entries steps : List ℕ) (e : ℕ) (env : Env) (s : ℕ) where
           };
         }
 
-    pub going_end : {left here fault : ℕ} → Going left here fault → (none : Bool) → Decides none (Empty left) → none ≡ true
-        → WalkRead sets entries steps e env set s at fault here
-    going_end g none d f = record {
+    pub going_end : {left here fault : ℕ} → Going left here fault → Empty left → WalkRead sets entries steps e env set s at fault here
+    going_end g none = record {
       is = λ {image} {table} {side} w.
-          each-end w.hand.lent.small s (read_on image table steps side e env set s) (g.is w).came (g.is w).each none d f
+          each-end w.hand.lent.small s (read_on image table steps side e env set s) (g.is w).came (g.is w).each none
           ∙ sym (g.is w).rest;
     }
 
@@ -155,7 +154,7 @@ module _ (sets entries steps : List ℕ) (e : ℕ) (env : Env) (s : ℕ) where
     }
 
 -- The two rules after which the walk goes on at each successor: AF's at once, AR's when b is read.
-module _ {image table sets entries steps : List ℕ} {side e : ℕ} {env : Env} {at next : ℕ} where
+module _ {image table : List ℕ} {sets : List Set} {entries : List Entry} {steps : List ℕ} {side e : ℕ} {env : Env} {at next : ℕ} where
   pub later-rest : Arm image table side sets entries steps e env at Rule.AfLater next → (set s : ℕ) → not (member set s) ≡ true → (fault : ℕ)
       → read_along image table steps side e env set s at
       ≡ onward (told (length steps) next fault) (read_each_on image table steps side e env set s)

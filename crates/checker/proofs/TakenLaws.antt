@@ -11,17 +11,19 @@ use mathlib.Core.Path.{◌≡◌}
 use mathlib.Core.Bool.{true, false}
 use mathlib.Core.List.{List}
 use lib.ListN.{length}
+use Rattle.hand.specs.declared.setup.Entry.{Entry}
+use Rattle.sets.specs.declared.Set.{Set}
 use Rattle.model.specs.Formula.{Env}
 use Rattle.format.specs.Table.{record_at}
 use Rattle.rules.specs.Head.{head_of, Head, step_by}
 use Rattle.rules.specs.Table.{kind_for}
 use Rattle.rules.specs.declared.Rule.{Rule}
 use Rattle.std.specs.Prelude.{Ok}
-use Rattle.hand.specs.Setup.{field_at}
+use Rattle.hand.specs.Setup.{entry_at}
 use Rattle.checker.specs.Reading.{OnWalk, Past, WalkRead, told, allows, read_premises_of}
 use Rattle.checker.proofs.ArmLaws.{Arm, arm-of, arm-kind, arm-fails, arm-proves, arm-ends}
 
-module _ {sets entries steps : List ℕ} {e : ℕ} {env : Env} {kind at : ℕ} {h : Head} {rule q : Rule} {next : ℕ} (is : kind ≡ field_at entries 0 e)
+module _ {sets : List Set} {entries : List Entry} {steps : List ℕ} {e : ℕ} {env : Env} {kind at : ℕ} {h : Head} {rule q : Rule} {next : ℕ} (is : kind ≡ (entry_at entries e).kind)
     (h-is : h ≡ head_of steps at kind) (found : h ≡ Ok (step_by rule next)) (named : rule ≡ q) (set s : ℕ) where
   pub refused : {r fault : ℕ}
       → ((image table : List ℕ) (side : ℕ) → OnWalk image table side sets entries e env s → allows image (record_at table e) env set s q ≡ false)

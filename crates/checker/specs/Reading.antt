@@ -1,5 +1,7 @@
 -- What the readers of steps answer, in the words of the crate `rules` (`read_formula`, `read_walk`, `read_premises`): the same readings, of the
 -- formula that an entry of the table has on a side, with the walk held as a set. Nothing that document 01 states is defined here.
+use Rattle.hand.specs.declared.setup.Entry.{Entry}
+use Rattle.sets.specs.declared.Set.{Set}
 use Rattle.std.specs.Prelude.{ℕ, suc, ◌+◌, ◌-◌, ◌≤◌, ◌<◌, ◌≡◌, Bool, true, false, ◌&&◌, List, T, eqb, ltb, length, Ok, Err}
 use Rattle.std.specs.Int.Count.{ones}
 use Rattle.model.specs.Graph.{Readable}
@@ -16,7 +18,7 @@ use Rattle.rules.specs.Reading.{Reader, onward, leads, meets, parts, through, re
 use Rattle.rules.specs.declared.Rule.{Rule}
 use Rattle.rules.specs.declared.Stop.{Stop}
 use Rattle.hand.specs.Side.{sided}
-use Rattle.hand.specs.Setup.{AllSets, most_entries, field_at, entry_at, entry_of}
+use Rattle.hand.specs.Setup.{AllSets, most_entries, entry_at, entry_of}
 use Rattle.hand.specs.Hand.{atom_in}
 
 -- What the readers go by, which holds of a setup that is not refused: edges join stages, for each of which a set has room, and x and y are
@@ -94,7 +96,7 @@ module _ (image table bytes : List ℕ) (side : ℕ) where
   read_premises_of e r env set s rule = read_premises (graph_of image) (parts_of e r env set s (binds (row rule).kind)) s (body rule).premises
 
 -- What the readers are lent of a setup that is not refused: the sets of its image, and the entries of its table on a side.
-pub record Lent (image table : List ℕ) (side : ℕ) (sets entries : List ℕ) : Type 0 where
+pub record Lent (image table : List ℕ) (side : ℕ) (sets : List Set) (entries : List Entry) : Type 0 where
   pub small : Small image table
   pub some : 1 ≤ stages_of image
   pub all : AllSets image sets
@@ -103,24 +105,24 @@ pub record Lent (image table : List ℕ) (side : ℕ) (sets entries : List ℕ) 
   pub ruled : (e : ℕ) → e < entries_of table → Ruled image e (record_at table e)
 
 -- An entry's formula is in hand, with every variable at a stage; and it stands at a stage of its walk.
-pub record InHand (image table : List ℕ) (side : ℕ) (sets entries : List ℕ) (e : ℕ) (env : Env) : Type 0 where
+pub record InHand (image table : List ℕ) (side : ℕ) (sets : List Set) (entries : List Entry) (e : ℕ) (env : Env) : Type 0 where
   pub lent : Lent image table side sets entries
   pub below : e < entries_of table
   pub inside : (v : ℕ) → env v < stages_of image
 
-pub record OnWalk (image table : List ℕ) (side : ℕ) (sets entries : List ℕ) (e : ℕ) (env : Env) (s : ℕ) : Type 0 where
+pub record OnWalk (image table : List ℕ) (side : ℕ) (sets : List Set) (entries : List Entry) (e : ℕ) (env : Env) (s : ℕ) : Type 0 where
   pub hand : InHand image table side sets entries e env
   pub stage : s < stages_of image
-  pub deep : 4 ≤ field_at entries 0 e
+  pub deep : 4 ≤ (entry_at entries e).kind
 
 -- The same of some setup: what a reader asks. It answers for every setup of which it is so.
-pub record Handed (sets entries : List ℕ) (e : ℕ) (env : Env) : Type 0 where
+pub record Handed (sets : List Set) (entries : List Entry) (e : ℕ) (env : Env) : Type 0 where
   pub image : List ℕ
   pub table : List ℕ
   pub side : ℕ
   pub hand : InHand image table side sets entries e env
 
-pub record Walking (sets entries : List ℕ) (e : ℕ) (env : Env) (s : ℕ) : Type 0 where
+pub record Walking (sets : List Set) (entries : List Entry) (e : ℕ) (env : Env) (s : ℕ) : Type 0 where
   pub image : List ℕ
   pub table : List ℕ
   pub side : ℕ
@@ -149,14 +151,14 @@ pub record Started (kind t : ℕ) (env : Env) (s : ℕ) : Type 0 where
   pub is : s ≡ pick (ltb kind 6) 0 (value env (term_of t))
 
 -- A walk may go on from s at c: s is not on it, c is a successor of s, and the entry's a has a lower number.
-pub record Led (sets entries : List ℕ) (e : ℕ) (env : Env) (set s c : ℕ) : Type 0 where
+pub record Led (sets : List Set) (entries : List Entry) (e : ℕ) (env : Env) (set s c : ℕ) : Type 0 where
   pub walking : Walking sets entries e env s
-  pub lower : field_at entries 1 e < e
+  pub lower : (entry_at entries e).a < e
   pub off : Has set s → ⊥
   pub next : T ((graph_of walking.image).next s c)
 
 -- What the readers answer, from a place on: of an entry; of a walk; of a walk's a at a stage and then the walk at another; of a at each successor.
-module _ (sets entries steps : List ℕ) (e : ℕ) (env : Env) where
+module _ (sets : List Set) (entries : List Entry) (steps : List ℕ) (e : ℕ) (env : Env) where
   pub record FormulaRead (at fault r : ℕ) : Type 0 where
     pub is : {image table : List ℕ} {side : ℕ} → InHand image table side sets entries e env
         → told (length steps) r fault ≡ read_entry image table steps side e env at

@@ -15,6 +15,8 @@ use format::question::Question;
 use format::{Refusal, byte, question};
 use hand::env::Env;
 use hand::setup;
+use hand::setup::Entry;
+use sets::Set;
 
 // The side that a certificate proves, or the first of the refusals 1 to 13, 20 to 25.
 pub fn check(image: &[u8], table: &[u8], certificate: &[u8], goal: u64, start: u64) -> Answer
@@ -53,9 +55,9 @@ fn steps_of(image: &[u8], table: &[u8], certificate: &[u8], q: Question) -> Chec
     let side = byte(certificate, 5);
     let shape = q.shape;
     let inner = shape.image;
-    let mut all = [0u64; setup::SETS];
+    let mut all = [Set::empty(); setup::SETS];
     setup::decode(image, inner.sets, &mut all);
-    let mut entries = [0u8; setup::ENTRIES];
+    let mut entries = [Entry::default(); setup::ENTRIES];
     setup::prepare(image, table, shape.entries, side, &mut entries);
     let env = Env {
         slots: [q.start, 0, 0, 0],

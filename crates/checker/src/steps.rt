@@ -8,10 +8,11 @@ ghost use Rattle.sets.specs.Member.{Has};
 ghost use Rattle.sets.specs.Number.{number, width};
 ghost use Rattle.sets.specs.Row.{held};
 ghost use Rattle.hand.specs.Environment.{Bound, env_of};
-ghost use Rattle.hand.specs.Setup.{field_at, most_entries};
+ghost use Rattle.hand.specs.Setup.{entry_at, most_entries};
 ghost use Rattle.checker.specs.Reading.{EachRead, FormulaRead, Handed, Led, OnRead, Past, Started, WalkRead, Walking};
 
 use hand::env::Env;
+use hand::setup::Entry;
 use hand::{env, setup};
 use rules::{Rule, Step, Unread};
 use sets::Set;
@@ -40,44 +41,44 @@ fn index(s: u8) -> usize
 }
 
 // Whether stage c is a successor of stage k.
-fn leads(sets: &[u64; setup::SETS], k: usize, c: u8) -> bool
+fn leads(sets: &[Set; setup::SETS], k: usize, c: u8) -> bool
     ensures { Decides result (Has (held sets.now k) c) }
 {
-    sets::has(setup::set(sets, k), c as usize)
+    setup::set(sets, k).has(c as usize)
 }
 
 // The variables with an entry's x, and with its y, at a stage.
-fn x_at(entries: &[u8; setup::ENTRIES], e: u8, env: Env, t: u8) -> Env
+fn x_at(entries: &[Entry; setup::ENTRIES], e: u8, env: Env, t: u8) -> Env
     requires { e < most_entries }
-    ensures { Bound env (field_at entries.now 3 e) t result }
+    ensures { Bound env ((entry_at entries.now e).x) t result }
 {
-    env.bound(setup::field(entries, setup::X, e), t)
+    env.bound(entries[e as usize].x, t)
 }
 
-fn y_at(entries: &[u8; setup::ENTRIES], e: u8, env: Env, t: u8) -> Env
+fn y_at(entries: &[Entry; setup::ENTRIES], e: u8, env: Env, t: u8) -> Env
     requires { e < most_entries }
-    ensures { Bound env (field_at entries.now 4 e) t result }
+    ensures { Bound env ((entry_at entries.now e).y) t result }
 {
-    env.bound(setup::field(entries, setup::Y, e), t)
+    env.bound(entries[e as usize].y, t)
 }
 
 // The stage at which the walk of an entry's formula starts: that of a modality's term; of another formula, 0.
-fn start(entries: &[u8; setup::ENTRIES], e: u8, env: Env) -> u8
+fn start(entries: &[Entry; setup::ENTRIES], e: u8, env: Env) -> u8
     requires { e < most_entries }
-    ensures { Started (field_at entries.now 0 e) (field_at entries.now 5 e) (env_of env) result }
+    ensures { Started ((entry_at entries.now e).kind) ((entry_at entries.now e).t) (env_of env) result }
 {
-    if setup::field(entries, setup::KIND, e) < 6 {
+    if entries[e as usize].kind < 6 {
         0
     } else {
-        env::stage_of(setup::field(entries, setup::T, e), env)
+        env::stage_of(entries[e as usize].t, env)
     }
 }
 
 // An entry's formula, from the start of its walk.
 #[cycle(at_each_formula_go_on_walk)]
 pub(crate) fn formula(
-    sets: &[u64; setup::SETS],
-    entries: &[u8; setup::ENTRIES],
+    sets: &[Set; setup::SETS],
+    entries: &[Entry; setup::ENTRIES],
     steps: &[u8],
     e: u8,
     env: Env,
@@ -87,7 +88,7 @@ pub(crate) fn formula(
     requires { Handed sets.now entries.now e (env_of env) }
     ensures { FormulaRead sets.now entries.now steps.now e (env_of env) at fault.new result }
 {
-    if setup::field(entries, setup::KIND, e) < 4 {
+    if entries[e as usize].kind < 4 {
         return leaf(sets, entries, steps, e, env, at, fault);
     }
     let s = start(entries, e, env);
@@ -98,29 +99,29 @@ pub(crate) fn formula(
 fn fresh_walk() -> Set
     ensures { number result ≡ 0 }
 {
-    sets::empty()
+    Set::empty()
 }
 
 // "True", "false" or an atom: one step with no premises, so that there is no walk. For "false" there is no rule.
 fn leaf(
-    sets: &[u64; setup::SETS],
-    entries: &[u8; setup::ENTRIES],
+    sets: &[Set; setup::SETS],
+    entries: &[Entry; setup::ENTRIES],
     steps: &[u8],
     e: u8,
     env: Env,
     at: usize,
     fault: &mut usize,
 ) -> usize
-    requires { Handed sets.now entries.now e (env_of env) × (field_at entries.now 0 e < 4) }
+    requires { Handed sets.now entries.now e (env_of env) × ((entry_at entries.now e).kind < 4) }
     ensures { FormulaRead sets.now entries.now steps.now e (env_of env) at fault.new result }
 {
-    let kind = setup::field(entries, setup::KIND, e);
+    let kind = entries[e as usize].kind;
     match rules::read_head(steps, at, kind) {
         Ok(Step { next: begun, .. }) => {
             if kind == 0 {
                 return begun;
             }
-            if setup::atom(sets, entries, e, env) {
+            if setup::atom(sets, &entries[e as usize], env) {
                 if kind == 2 {
                     begun
                 } else {
@@ -143,8 +144,8 @@ fn leaf(
 // the loop at the end, where the walk has its stage added; the others are done before it.
 #[cycle(at_each_formula_go_on_walk)]
 fn walk(
-    sets: &[u64; setup::SETS],
-    entries: &[u8; setup::ENTRIES],
+    sets: &[Set; setup::SETS],
+    entries: &[Entry; setup::ENTRIES],
     steps: &[u8],
     e: u8,
     env: Env,
@@ -157,27 +158,27 @@ fn walk(
     ensures { WalkRead sets.now entries.now steps.now e (env_of env) (number met) s at fault.new result }
 {
     let k = index(s);
-    match rules::read_head(steps, at, setup::field(entries, setup::KIND, e)) {
+    match rules::read_head(steps, at, entries[e as usize].kind) {
         Ok(Step { rule, next: begun }) => {
             let from = match rule {
                 Rule::True => return begun,
                 Rule::Holds => return begun,
                 Rule::HoldsNot => return begun,
                 Rule::And => {
-                    let a = setup::field(entries, setup::A, e);
+                    let a = entries[e as usize].a;
                     let here = formula(sets, entries, steps, a, env, begun, fault);
                     if steps.len() < here {
                         return here;
                     }
-                    let b = setup::field(entries, setup::B, e);
+                    let b = entries[e as usize].b;
                     return formula(sets, entries, steps, b, env, here, fault);
                 }
                 Rule::OrLeft => {
-                    let a = setup::field(entries, setup::A, e);
+                    let a = entries[e as usize].a;
                     return formula(sets, entries, steps, a, env, begun, fault);
                 }
                 Rule::OrRight => {
-                    let b = setup::field(entries, setup::B, e);
+                    let b = entries[e as usize].b;
                     return formula(sets, entries, steps, b, env, begun, fault);
                 }
                 Rule::Ax => return at_each(sets, entries, steps, e, env, s, begun, fault),
@@ -185,26 +186,26 @@ fn walk(
                     if !leads(sets, k, c) {
                         return fails(steps, at, fault);
                     }
-                    let a = setup::field(entries, setup::A, e);
+                    let a = entries[e as usize].a;
                     let bound = x_at(entries, e, env, c);
                     return formula(sets, entries, steps, a, bound, begun, fault);
                 }
                 Rule::AfNow => {
-                    if sets::has(met, k) {
+                    if met.has(k) {
                         return fails(steps, at, fault);
                     }
-                    let a = setup::field(entries, setup::A, e);
+                    let a = entries[e as usize].a;
                     let bound = x_at(entries, e, env, s);
                     return formula(sets, entries, steps, a, bound, begun, fault);
                 }
                 Rule::AfLater => {
-                    if sets::has(met, k) {
+                    if met.has(k) {
                         return fails(steps, at, fault);
                     }
                     begun
                 }
                 Rule::EgOn(c) => {
-                    if sets::has(met, k) {
+                    if met.has(k) {
                         return fails(steps, at, fault);
                     }
                     if !leads(sets, k, c) {
@@ -213,49 +214,49 @@ fn walk(
                     return go_on(sets, entries, steps, e, env, met, s, c, begun, fault);
                 }
                 Rule::EgMerge => {
-                    if !sets::has(met, k) {
+                    if !met.has(k) {
                         return fails(steps, at, fault);
                     }
                     return begun;
                 }
                 Rule::ArRelease => {
-                    if sets::has(met, k) {
+                    if met.has(k) {
                         return fails(steps, at, fault);
                     }
-                    let a = setup::field(entries, setup::A, e);
+                    let a = entries[e as usize].a;
                     let bound = x_at(entries, e, env, s);
                     let here = formula(sets, entries, steps, a, bound, begun, fault);
                     if steps.len() < here {
                         return here;
                     }
-                    let b = setup::field(entries, setup::B, e);
+                    let b = entries[e as usize].b;
                     let bound = y_at(entries, e, env, s);
                     return formula(sets, entries, steps, b, bound, here, fault);
                 }
                 Rule::ArOn => {
-                    if sets::has(met, k) {
+                    if met.has(k) {
                         return fails(steps, at, fault);
                     }
-                    let b = setup::field(entries, setup::B, e);
+                    let b = entries[e as usize].b;
                     let bound = y_at(entries, e, env, s);
                     formula(sets, entries, steps, b, bound, begun, fault)
                 }
                 Rule::ArMerge => {
-                    if !sets::has(met, k) {
+                    if !met.has(k) {
                         return fails(steps, at, fault);
                     }
                     return begun;
                 }
                 Rule::EuNow => {
-                    if sets::has(met, k) {
+                    if met.has(k) {
                         return fails(steps, at, fault);
                     }
-                    let b = setup::field(entries, setup::B, e);
+                    let b = entries[e as usize].b;
                     let bound = y_at(entries, e, env, s);
                     return formula(sets, entries, steps, b, bound, begun, fault);
                 }
                 Rule::EuLater(c) => {
-                    if sets::has(met, k) {
+                    if met.has(k) {
                         return fails(steps, at, fault);
                     }
                     if !leads(sets, k, c) {
@@ -264,16 +265,15 @@ fn walk(
                     return go_on(sets, entries, steps, e, env, met, s, c, begun, fault);
                 }
             };
-            let mut left = setup::set(sets, k);
+            let grown = met.with(k);
             let mut here = from;
-            while !sets::is_empty(left) {
+            for t in setup::set(sets, k).stages() {
                 if steps.len() < here {
                     return here;
                 }
-                let t = sets::lowest(left) as u8;
-                let grown = sets::with(met, k);
-                here = walk(sets, entries, steps, e, env, grown, t, here, fault);
-                left = sets::rest(left);
+                here = walk(
+                    sets, entries, steps, e, env, grown, t as u8, here, fault,
+                );
             }
             here
         }
@@ -285,8 +285,8 @@ fn walk(
 // The entry's a at s, and then the walk, with s added, at its successor c.
 #[cycle(at_each_formula_go_on_walk)]
 fn go_on(
-    sets: &[u64; setup::SETS],
-    entries: &[u8; setup::ENTRIES],
+    sets: &[Set; setup::SETS],
+    entries: &[Entry; setup::ENTRIES],
     steps: &[u8],
     e: u8,
     env: Env,
@@ -299,7 +299,7 @@ fn go_on(
     requires { Led sets.now entries.now e (env_of env) (number met) s c }
     ensures { OnRead sets.now entries.now steps.now e (env_of env) (number met) s c at fault.new result }
 {
-    let a = setup::field(entries, setup::A, e);
+    let a = entries[e as usize].a;
     let bound = x_at(entries, e, env, s);
     let here = formula(sets, entries, steps, a, bound, at, fault);
     if steps.len() < here {
@@ -311,7 +311,7 @@ fn go_on(
         steps,
         e,
         env,
-        sets::with(met, s as usize),
+        met.with(s as usize),
         c,
         here,
         fault,
@@ -321,8 +321,8 @@ fn go_on(
 // The entry's a at each successor of s, ascending.
 #[cycle(at_each_formula_go_on_walk)]
 fn at_each(
-    sets: &[u64; setup::SETS],
-    entries: &[u8; setup::ENTRIES],
+    sets: &[Set; setup::SETS],
+    entries: &[Entry; setup::ENTRIES],
     steps: &[u8],
     e: u8,
     env: Env,
@@ -330,20 +330,17 @@ fn at_each(
     at: usize,
     fault: &mut usize,
 ) -> usize
-    requires { Walking sets.now entries.now e (env_of env) s × ((field_at entries.now 1 e < e) × (at ≤ length steps.now)) }
+    requires { Walking sets.now entries.now e (env_of env) s × (((entry_at entries.now e).a < e) × (at ≤ length steps.now)) }
     ensures { EachRead sets.now entries.now steps.now e (env_of env) s at fault.new result }
 {
-    let mut left = setup::set(sets, s as usize);
     let mut here = at;
-    while !sets::is_empty(left) {
+    for t in setup::set(sets, s as usize).stages() {
         if steps.len() < here {
             return here;
         }
-        let t = sets::lowest(left) as u8;
-        let a = setup::field(entries, setup::A, e);
-        let bound = x_at(entries, e, env, t);
+        let a = entries[e as usize].a;
+        let bound = x_at(entries, e, env, t as u8);
         here = formula(sets, entries, steps, a, bound, here, fault);
-        left = sets::rest(left);
     }
     here
 }

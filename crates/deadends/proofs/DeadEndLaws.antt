@@ -23,13 +23,13 @@ use lib.Bits.{bit_and}
 use lib.Count.{ones, ones-le}
 use lib.Dec.{T}
 use lib.ListN.{length}
+use Rattle.sets.specs.declared.Set.{Set}
 use Rattle.model.specs.Graph.{Graph, Readable}
 use Rattle.logic.specs.Meaning.{Path, OnSomeUntil}
 use Rattle.logic.specs.Test.{Stages, eu}
 use Rattle.logic.proofs.TestMeaning.{eu-means}
 use Rattle.sets.specs.Member.{Has}
 use Rattle.sets.specs.Number.{width}
-use Rattle.sets.specs.Row.{words}
 use Rattle.sets.proofs.LawsMember.{has-test, has-minus}
 use Rattle.modal.specs.Row.{member, Row, Computes}
 use Rattle.modal.specs.Modal.{eu_of}
@@ -83,13 +83,13 @@ module _ {image : List ℕ} (clear : Clear (report_conditions image)) where
   all-stages n-is m-is = let few = (sizes image clear-image).stages in omega arith
 
   -- and the row that is decoded of it holds its graph.
-  pub clear-row : {n : ℕ} {before row : List ℕ} → n ≡ stages_of image → width * words ≤ length before → Decoded image n before row → Row row n (graph_of image)
+  pub clear-row : {n : ℕ} {before row : List Set} → n ≡ stages_of image → width ≤ length before → Decoded image n before row → Row row n (graph_of image)
   clear-row e long d =
       let few = (sizes image clear-image).stages in
       decoded-row e (omega arith) long d
 
   -- All stages less those at which EU(true, fired) holds are the dead ends.
-  pub listed-dead : {next : List ℕ} {n all fired able dead : ℕ} → Row next n (graph_of image) → all ≡ below n → fired ≡ set_of image (first_set image 0)
+  pub listed-dead : {next : List Set} {n all fired able dead : ℕ} → Row next n (graph_of image) → all ≡ below n → fired ≡ set_of image (first_set image 0)
       → Computes next n (eu_of all fired) able → dead ≡ all - bit_and all able → DeadEndsOf (graph_of image) dead
   listed-dead {next} {n} {all} {fired} {able} {dead} row every is-fired found rest = dead-unless (graph_of image) dead unless
     where

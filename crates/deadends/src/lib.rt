@@ -17,6 +17,7 @@ ghost use Rattle.deadends.specs.Report.{ReportAnswer, CodedReport};
 use answer::Report;
 use format::{Refusal, byte, image};
 use hand::setup;
+use sets::Set;
 
 // The set of the dead ends with their number, or the first of the refusals 1 to 5 and 15.
 pub fn report(image: &[u8]) -> Report
@@ -62,13 +63,13 @@ fn listed(image: &[u8], n: usize) -> Report
     ensures { ReportAnswer image.now result }
 {
     let stages = within_width(n);
-    let mut next = [0u64; setup::NEXT];
+    let mut next = [Set::empty(); setup::NEXT];
     setup::decode(image, stages, &mut next);
     let fired = image::set(image, image::first_set(image, 0));
-    let all = sets::below(stages);
+    let all = Set::below(stages);
     let able = modal::eu(&next, stages, all, fired);
-    let dead = sets::minus(all, able);
-    Report::DeadEnds(dead, sets::count(dead) as u8)
+    let dead = all.minus(able);
+    Report::DeadEnds(dead, dead.count() as u8)
 }
 
 // The report for callers in C. Its number comes back: a refusal's own, or 128 and the number of dead ends. The set is stored at the front of the

@@ -14,7 +14,7 @@ use lib.ListN.{length}
 use lib.Seq.{ext_get_or}
 use Rattle.model.specs.Formula.{Formula}
 use Rattle.sets.specs.Member.{Within}
-use Rattle.sets.specs.Number.{number, width}
+use Rattle.sets.specs.Number.{number, none, width}
 use Rattle.sets.specs.Row.{held, Put}
 use Rattle.sets.specs.declared.Set.{Set}
 use Rattle.sets.proofs.LawsMember.{same?, has-lt, within-antisym}
@@ -23,9 +23,9 @@ use Rattle.format.specs.Image.{FirstSet}
 use Rattle.format.specs.Reading.{Variables}
 
 -- Two rows with a set put in at one place are one: they agree there, where there is room, and everywhere else.
-pub put-once : (row : List ℕ) (i s : ℕ) (a b : List ℕ) → Put row i s a → Put row i s b → a ≡ b
+pub put-once : (row : List Set) (i s : ℕ) (a b : List Set) → Put row i s a → Put row i s b → a ≡ b
 unfolding held
-put-once row i s a b p q = ext_get_or 0 a b (p.size ∙ sym q.size) at
+put-once row i s a b p q = ext_get_or none a b (p.size ∙ sym q.size) (λ j h. set_same _ _ (at j h))
   where
     at : (j : ℕ) → j < length a → held a j ≡ held b j
     at j h =

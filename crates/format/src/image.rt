@@ -51,7 +51,7 @@ pub fn set(image: &[u8], i: usize) -> Set
     ensures { number result ≡ set_of image.now i }
 {
     let p = byte(image, 6) as usize;
-    sets::read_nth(image, 7 + p, i)
+    Set::read_nth(image, 7 + p, i)
 }
 
 // The number of predicate q's first set.
@@ -101,10 +101,10 @@ fn plain_sets(image: &[u8]) -> usize
     ensures { Plain image.now result }
 {
     let n = byte(image, 5) as usize;
-    let all = sets::below(n);
+    let all = Set::below(n);
     for i in 0..n {
         let s = set(image, i);
-        if !sets::subset(s, all) || sets::is_empty(s) {
+        if !s.subset(all) || s.is_empty() {
             return i;
         }
     }
@@ -116,7 +116,7 @@ fn high_bit(image: &[u8], plain: usize) -> bool
     requires { SizesFit image.now × Plain image.now plain }
     ensures { Decides result (HighBit image.now) }
 {
-    let all = sets::below(byte(image, 5) as usize);
+    let all = Set::below(byte(image, 5) as usize);
     let count = first_set(image, byte(image, 6));
-    (plain..count).any(|i| !sets::subset(set(image, i), all))
+    (plain..count).any(|i| !set(image, i).subset(all))
 }

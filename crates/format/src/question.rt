@@ -42,5 +42,5 @@ fn other_free(image: &[u8], table: &[u8], goal: u8) -> bool
     ensures { Decides result (OtherFree image.now table.now goal) }
 {
     let free = variables::free(image, table, goal);
-    (1..4).any(|v| sets::has(free, v))
+    (1..4).any(|v| free.has(v))
 }

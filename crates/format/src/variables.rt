@@ -15,24 +15,12 @@ pub fn free(image: &[u8], table: &[u8], e: u8) -> Set
     let r = record::entry(table, e as usize);
     let sort = record::sort_of(record::kind_of(r.kind));
     match sort {
-        Sort::Constant => sets::empty(),
+        Sort::Constant => Set::empty(),
         Sort::Atom => free_in_atom(image, r),
-        Sort::Junction => sets::union(
-            free_below(image, table, e, r.a),
-            free_below(image, table, e, r.b),
-        ),
-        Sort::Unary => sets::union(
-            variable_in(r.t),
-            sets::without(free_below(image, table, e, r.a), r.x as usize),
-        ),
-        Sort::Binary => sets::union(
-            variable_in(r.t),
-            sets::union(
-                sets::without(free_below(image, table, e, r.a), r.x as usize),
-                sets::without(free_below(image, table, e, r.b), r.y as usize),
-            ),
-        ),
-        Sort::NoSort => sets::empty(),
+        Sort::Junction => free_below(image, table, e, r.a).union(free_below(image, table, e, r.b)),
+        Sort::Unary => variable_in(r.t).union(free_below(image, table, e, r.a).without(r.x as usize)),
+        Sort::Binary => variable_in(r.t).union(free_below(image, table, e, r.a).without(r.x as usize).union(free_below(image, table, e, r.b).without(r.y as usize))),
+        Sort::NoSort => Set::empty(),
     }
 }
 
@@ -44,7 +32,7 @@ fn free_below(image: &[u8], table: &[u8], e: u8, o: u8) -> Set
     if o < e {
         free(image, table, o)
     } else {
-        sets::empty()
+        Set::empty()
     }
 }
 
@@ -53,9 +41,9 @@ fn variable_in(t: u8) -> Set
     ensures { Named (term_of t) (number result) }
 {
     if t < 64 {
-        sets::empty()
+        Set::empty()
     } else {
-        sets::only(t as usize - 64)
+        Set::only(t as usize - 64)
     }
 }
 
@@ -63,7 +51,7 @@ fn free_in_atom(image: &[u8], r: Record) -> Set
     ensures { NamedInAtom (atom_of image.now r) (number result) }
 {
     if byte(image, 7 + r.a as usize) == 2 {
-        sets::union(variable_in(r.t), variable_in(r.b))
+        variable_in(r.t).union(variable_in(r.b))
     } else {
         variable_in(r.t)
     }

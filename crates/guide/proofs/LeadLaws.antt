@@ -9,6 +9,7 @@ use Prim.Native.Nat.{ℕ, ◌<◌}
 use native.Mathlib.Omega.{arith}
 use mathlib.Core.Path.{◌≡◌, ◌∙◌}
 use mathlib.Core.List.{List}
+use Rattle.sets.specs.declared.Set.{Set}
 use Rattle.model.specs.Graph.{Graph}
 use Rattle.logic.specs.Test.{Stages, eg}
 use Rattle.modal.specs.Row.{member, Row, Computes}
@@ -21,7 +22,7 @@ use Rattle.guide.specs.Toward.{Filled, lowest_in, Nearest}
 use Rattle.guide.proofs.TowardLaws.{filled-as, lowest-in-row}
 use Rattle.guide.proofs.NearestLaws.{nearest-same}
 
-module _ {next : List ℕ} {n : ℕ} {G : Graph} (R : Row next n G) where
+module _ {next : List Set} {n : ℕ} {G : Graph} (R : Row next n G) where
   pub ex-leads : (x : Stages) {set s r : ℕ} → Collects n x set → s < n → r ≡ lowest_in next n set s → r ≡ lowest_next G x s
   ex-leads x {set} {s} c h e =
       e ∙ lowest-in-row R set s h ∙ lowest-next-same G (member set) x (λ t i. c.right t (omega (arith, R.stages))) s

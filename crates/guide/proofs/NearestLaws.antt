@@ -17,6 +17,7 @@ use mathlib.Core.Logic.{⊎_elim, inl, inr}
 use lib.Bits.{bit_and, bit_or}
 use lib.Dec.{T}
 use lib.ListN.{get_or}
+use Rattle.sets.specs.declared.Set.{Set}
 use Rattle.model.specs.Graph.{Graph}
 use Rattle.model.specs.Formula.{pick}
 use Rattle.logic.proofs.Booleans.{T_and, decide, same_test, any_below_lem}
@@ -103,7 +104,7 @@ module _ (G : Graph) (a b : Stages) where
 
 -- ---- the rounds, over a row of successor sets
 
-module _ {next : List ℕ} {n : ℕ} {G : Graph} (R : Row next n G) (a : Stages) where
+module _ {next : List Set} {n : ℕ} {G : Graph} (R : Row next n G) (a : Stages) where
   -- Before the first round.
   pub nearing-start : (b : ℕ) {away : ℕ} {row : List ℕ} → away ≡ below n → Cleared n row → Nearing G a (member b) 0 b away row row
   unfolding iter any_below
@@ -121,7 +122,7 @@ module _ {next : List ℕ} {n : ℕ} {G : Graph} (R : Row next n G) (a : Stages)
       (nearing-all G a b N (λ s h f j i t. f ((any_below_lem k (near_at G a b s)).1 (j, omega (arith, R.stages), t))))
 
 -- A round, worked out from the row.
-module _ {next : List ℕ} {n : ℕ} {G : Graph} (R : Row next n G) (a : ℕ) (b : Stages) (k : ℕ) {near away new : ℕ} {before toward : List ℕ}
+module _ {next : List Set} {n : ℕ} {G : Graph} (R : Row next n G) (a : ℕ) (b : Stages) (k : ℕ) {near away new : ℕ} {before toward : List ℕ}
     (N : Nearing G (member a) b k near away before toward) (c : Computes next n (ex_among away near) new) where
   -- What is new was away, and has a successor that is near.
   new_is : (s : ℕ) → s < G.stages → member new s ≡ (not (any_below k (near_at G (member a) b s)) && near_at G (member a) b s k)

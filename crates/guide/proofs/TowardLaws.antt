@@ -21,6 +21,8 @@ use lib.ListN
 use lib.ListN.{length, get_or, length-set, replicate, get_or-replicate}
 use lib.Seq.{get_or-set_same, get_or-set_other, ext_get_or}
 use borrow.Author.Tests.{eq-eqb, ne_eqb}
+use Rattle.sets.specs.Walk.{Turn}
+use Rattle.sets.specs.declared.Set.{Set}
 use Rattle.model.specs.Graph.{Graph}
 use Rattle.model.specs.Formula.{pick}
 use Rattle.logic.proofs.Booleans.{T_and}
@@ -29,7 +31,7 @@ use Rattle.sets.specs.Number.{width}
 use Rattle.sets.specs.Row.{held}
 use Rattle.sets.proofs.LawsLowest
 use Rattle.sets.proofs.LawsMember.{same?, side?, has-test, has-and}
-use Rattle.sets.proofs.LawsWalk.{Turn, walk-has}
+use Rattle.sets.proofs.LawsWalk.{walk-has}
 use Rattle.modal.specs.Row.{member, Row, Inside}
 use Rattle.modal.proofs.LawsMember.{below, member-all}
 use Rattle.written.specs.Choice.{lowest, lowest_next}
@@ -58,7 +60,7 @@ filled-once {n} a b f g =
 
 -- ---- the lowest successor in a set
 
-module _ (next : List ℕ) (n set s : ℕ) {loaded both low : ℕ} (l : loaded ≡ held next s) (e : both ≡ bit_and loaded set)
+module _ (next : List Set) (n set s : ℕ) {loaded both low : ℕ} (l : loaded ≡ held next s) (e : both ≡ bit_and loaded set)
     (z : low ≡ count_trailing_zeros width both) where
   -- A stage is in both exactly when it is a successor in the set.
   both_is : (t : ℕ) → Has both t → T (member (held next s) t && member set t)
@@ -87,7 +89,7 @@ module _ (next : List ℕ) (n set s : ℕ) {loaded both low : ℕ} (l : loaded �
   lowest-lacks h = sym (lowest-none n (λ t. member (held next s) t && member set t) (λ t i u. none-lower t (omega arith) u))
 
 -- The lowest successor in a set, of the graph that the row of successor sets holds.
-pub lowest-in-row : {next : List ℕ} {n : ℕ} {G : Graph} → Row next n G → (set s : ℕ) → s < n → lowest_in next n set s ≡ lowest_next G (member set) s
+pub lowest-in-row : {next : List Set} {n : ℕ} {G : Graph} → Row next n G → (set s : ℕ) → s < n → lowest_in next n set s ≡ lowest_next G (member set) s
 lowest-in-row {next} {n} {G} R set s h =
     lowest-same n (λ t. member (held next s) t && member set t) (λ t. G.next s t && member set t)
     (λ t i. ap (λ (b : Bool). b && member set t) (sym (R.edges s t h i)))
@@ -96,21 +98,21 @@ lowest-in-row {next} {n} {G} R set s h =
 -- ---- the new stages, one after the other
 
 -- The new stages that are not left are led to their lowest successor in a set, and all else is as it was.
-pub record Settling (next : List ℕ) (n new set : ℕ) (before : List ℕ) (left : ℕ) (row : List ℕ) : Type 0 where
+pub record Settling (next : List Set) (n new set : ℕ) (before : List ℕ) (left : ℕ) (row : List ℕ) : Type 0 where
   pub small : left < 2 ^ width
   pub inside : Inside n left
   pub among : Within left new
   pub filled : Filled n (λ s. pick (member new s && not (member left s)) (lowest_in next n set s) (get_or before s 0)) before row
 
-module _ (next : List ℕ) (n new set : ℕ) {before : List ℕ} where
+module _ (next : List Set) (n new set : ℕ) {before : List ℕ} where
   -- At the start all are left.
-  pub settle-start : new < 2 ^ width → Inside n new → Settling next n new set before new before
-  settle-start w i = record {
-    small = w;
-    inside = i;
-    among = λ s h. h;
+  pub settle-start : {left : ℕ} → new < 2 ^ width → Inside n new → left ≡ new → Settling next n new set before left before
+  settle-start {left} w i e = record {
+    small = omega (arith, w, e);
+    inside = λ s h. i s (sym (ap (λ (x : ℕ). bit x s) e) ∙ h);
+    among = λ s h. sym (ap (λ (x : ℕ). bit x s) e) ∙ h;
     filled = record {
-      each = λ s h. ap (λ (b : Bool). pick b (lowest_in next n set s) (get_or before s 0)) (sym (none
+      each = λ s h. ap (λ (b : Bool). pick b (lowest_in next n set s) (get_or before s 0)) (sym (ap (λ (x : ℕ). member new s && not (member x s)) e ∙ none
           (member new s)));
       kept = λ s h. refl;
       size = refl;
@@ -176,7 +178,7 @@ module _ (next : List ℕ) (n new set : ℕ) {before : List ℕ} where
       and-true false = refl
 
 -- Where every stage is to be led to its lowest successor, each is.
-pub fill-each : (next : List ℕ) (n all set : ℕ) {before after : List ℕ} → n ≤ width → all ≡ below n
+pub fill-each : (next : List Set) (n all set : ℕ) {before after : List ℕ} → n ≤ width → all ≡ below n
     → Filled n (settled next n all set before) before after → Filled n (lowest_in next n set) before after
 fill-each next n all set {before} w e f =
     filled-as (λ s h. ap (λ (b : Bool). pick b (lowest_in next n set s) (get_or before s 0)) (member-all e w s h)) f

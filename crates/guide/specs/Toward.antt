@@ -3,6 +3,7 @@ use Rattle.std.specs.Prelude.{ℕ, ◌≤◌, ◌<◌, ◌≡◌, ◌&&◌, List
 use Rattle.model.specs.Graph.{Graph}
 use Rattle.model.specs.Formula.{pick}
 use Rattle.logic.specs.Test.{Stages}
+use Rattle.sets.specs.declared.Set.{Set}
 use Rattle.sets.specs.Row.{held}
 use Rattle.modal.specs.Row.{member}
 use Rattle.verdict.specs.Evaluation.{Collects}
@@ -19,11 +20,11 @@ abbrev pub Cleared : ℕ → List ℕ → Type 0
 Cleared n row = (s : ℕ) → s < n → get_or row s 0 ≡ 0
 
 -- The lowest successor of a stage in a set, where `next` holds the successors of n stages; 0 where there is none.
-abbrev pub lowest_in : List ℕ → ℕ → ℕ → ℕ → ℕ
+abbrev pub lowest_in : List Set → ℕ → ℕ → ℕ → ℕ
 lowest_in next n set s = lowest n (λ t. member (held next s) t && member set t)
 
 -- That successor for the stages that are in `new`, and for the others what stood there before.
-abbrev pub settled : List ℕ → ℕ → ℕ → ℕ → List ℕ → ℕ → ℕ
+abbrev pub settled : List Set → ℕ → ℕ → ℕ → List ℕ → ℕ → ℕ
 settled next n new set before s = pick (member new s) (lowest_in next n set s) (get_or before s 0)
 
 -- What EU goes by, where a and b hold at the stages a and b: the nows, and for each stage the successor fewest steps from one, the lowest of equals.

@@ -30,7 +30,7 @@ use sets::Set;
 pub fn ex(
     image: &[u8],
     table: &[u8],
-    next: &[u64],
+    next: &[Set],
     n: usize,
     side: u8,
     a: u8,
@@ -53,7 +53,7 @@ pub fn ex(
 pub fn eg(
     image: &[u8],
     table: &[u8],
-    next: &[u64],
+    next: &[Set],
     n: usize,
     side: u8,
     a: u8,
@@ -74,7 +74,7 @@ pub fn eg(
 pub fn eu(
     image: &[u8],
     table: &[u8],
-    next: &[u64],
+    next: &[Set],
     n: usize,
     side: u8,
     a: u8,

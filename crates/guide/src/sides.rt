@@ -12,7 +12,7 @@ use verdict::{evaluation, truth};
 pub fn holds_on(
     image: &[u8],
     table: &[u8],
-    next: &[u64],
+    next: &[Set],
     n: usize,
     side: u8,
     e: u8,
@@ -29,7 +29,7 @@ pub fn holds_on(
 pub fn where_on(
     image: &[u8],
     table: &[u8],
-    next: &[u64],
+    next: &[Set],
     n: usize,
     side: u8,
     e: u8,
@@ -43,6 +43,6 @@ pub fn where_on(
     if side == 0 {
         held
     } else {
-        sets::minus(sets::below(n), held)
+        Set::below(n).minus(held)
     }
 }

@@ -10,33 +10,30 @@ ghost use Rattle.guide.specs.Toward.{Filled, Cleared, lowest_in, settled};
 use sets::Set;
 
 // The lowest successor of s in a set; 0 where there is none.
-pub(crate) fn lowest_next(next: &[u64], n: usize, s: usize, set: Set) -> u8
+pub(crate) fn lowest_next(next: &[Set], n: usize, s: usize, set: Set) -> u8
     requires { n ≤ width }
     ensures { result ≡ lowest_in next.now n (number set) s }
 {
-    let low = sets::lowest(sets::common(sets::row::load(next, s), set));
+    let low = sets::row::load(next, s).common(set).lowest();
     if low < n { low as u8 } else { 0 }
 }
 
 // Each stage of `new`, all of which are below n, is led to its lowest successor in a set.
-fn settle(next: &[u64], n: usize, new: Set, set: Set, toward: &mut [u8])
+fn settle(next: &[Set], n: usize, new: Set, set: Set, toward: &mut [u8])
     requires { (n ≤ width) × (n ≤ length toward.old) × Inside n (number new) }
     ensures { Filled n (settled next.now n (number new) (number set) toward.old) toward.old toward.new }
 {
-    let mut left = new;
-    while !sets::is_empty(left) {
-        let s = sets::lowest(left);
+    for s in new.stages() {
         toward[s] = lowest_next(next, n, s, set);
-        left = sets::rest(left);
     }
 }
 
 // Every stage below n is led to its lowest successor in a set.
-pub(crate) fn fill(next: &[u64], n: usize, set: Set, toward: &mut [u8])
+pub(crate) fn fill(next: &[Set], n: usize, set: Set, toward: &mut [u8])
     requires { (n ≤ width) × (n ≤ length toward.old) }
     ensures { Filled n (lowest_in next.now n (number set)) toward.old toward.new }
 {
-    let all = sets::below(n);
+    let all = Set::below(n);
     settle(next, n, all, set, toward);
 }
 
@@ -46,22 +43,20 @@ pub(crate) fn fill(next: &[u64], n: usize, set: Set, toward: &mut [u8])
 // After k rounds `near` has the stages at most k steps from a now, and `away` those that have no successor fewer than k steps from one. Only these are
 // asked. One of them that is new in a round, with a successor that is near then, is led to the lowest such: no successor was near before. Where a round
 // finds no stage new, it would change nothing, and neither would those after it.
-pub(crate) fn nearest(next: &[u64], n: usize, a: Set, b: Set, toward: &mut [u8])
+pub(crate) fn nearest(next: &[Set], n: usize, a: Set, b: Set, toward: &mut [u8])
     requires { (n ≤ width) × (n ≤ length toward.old) × Cleared n toward.old }
     ensures { (G : Graph) → Row next.now n G
         → Filled n (nearest G (member (number a)) (member (number b))) toward.old toward.new }
 {
     let mut near = b;
-    let mut away = sets::below(n);
-    let mut k = 0;
-    while k < n {
+    let mut away = Set::below(n);
+    for _ in 0..n {
         let new = modal::some_next_among(next, n, away, near);
-        if sets::is_empty(new) {
+        if new.is_empty() {
             return;
         }
         settle(next, n, new, near, toward);
-        away = sets::minus(away, new);
-        near = sets::union(near, sets::common(a, new));
-        k += 1;
+        away = away.minus(new);
+        near = near.union(a.common(new));
     }
 }

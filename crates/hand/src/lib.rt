@@ -80,8 +80,8 @@ pub fn atom_holds(image: &[u8], r: Record, env: Env) -> bool
     let t = env::stage_of(r.t, env) as usize;
     if byte(image, 7 + r.a as usize) == 2 {
         let b = env::stage_of(r.b, env) as usize;
-        sets::has(image::set(image, first + t), b)
+        image::set(image, first + t).has(b)
     } else {
-        sets::has(image::set(image, first), t)
+        image::set(image, first).has(t)
     }
 }

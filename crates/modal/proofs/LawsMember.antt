@@ -10,6 +10,7 @@
 --     clip-agrees                               what a set has below n
 --
 -- Assumes nothing.
+use Rattle.sets.specs.declared.Set.{Set}
 use mathlib.Core.Path.{◌≡◌, refl, sym, ap, ◌∙◌, subst}
 use mathlib.Core.Bool.{Bool, true, false, not, ◌&&◌, ◌||◌}
 use mathlib.Core.List.{List}
@@ -120,7 +121,7 @@ abbrev pub Agree : ℕ → Stages → Stages → Type 0
 Agree n x y = (s : ℕ) → s < n → x s ≡ y s
 
 -- A set worked out for one test is worked out for any test that agrees with it.
-pub computes-as : {next : List ℕ} {n : ℕ} {op op' : Graph → Stages} {r : ℕ} → ((G : Graph) → Row next n G → Agree n (op G) (op' G))
+pub computes-as : {next : List Set} {n : ℕ} {op op' : Graph → Stages} {r : ℕ} → ((G : Graph) → Row next n G → Agree n (op G) (op' G))
     → Computes next n op r → Computes next n op' r
 computes-as same c = record { inside = c.inside; right = λ G R s h. c.right G R s h ∙ same G R s h }
 

@@ -8,6 +8,8 @@
 --     asked-all               where every stage is asked
 --
 -- Assumes nothing.
+use Rattle.sets.specs.Walk.{Turn}
+use Rattle.sets.specs.declared.Set.{Set}
 use mathlib.Core.Path.{◌≡◌, refl, sym, ap, ◌∙◌, subst}
 use mathlib.Core.Bool.{Bool, true, false, not, ◌&&◌}
 use mathlib.Core.List.{List}
@@ -24,7 +26,7 @@ use Rattle.sets.specs.Member.{Has, Empty}
 use Rattle.sets.specs.Number.{single}
 use Rattle.sets.specs.Row.{held}
 use Rattle.sets.proofs.LawsMember.{has-test, has-and, has-minus, empty-zero}
-use Rattle.sets.proofs.LawsWalk.{Turn, Gathered, gather-take, gather-skip, gathered}
+use Rattle.sets.proofs.LawsWalk.{Gathered, gather-take, gather-skip, gathered}
 use Rattle.modal.specs.Row.{member, Row, Computes, Meets, Meeting}
 use Rattle.modal.specs.Rounds.{step, step_on, ready_on}
 use Rattle.modal.specs.declared.Which.{Which}
@@ -33,7 +35,7 @@ use Rattle.modal.proofs.LawsMember.{computes-as, clip-agrees, member-says, membe
 use Rattle.modal.proofs.LawsMember.{inside-all, inside-right, inside-minus, some-member}
 
 -- The row has the successors of a stage.
-edge-is : {next : List ℕ} {n : ℕ} {G : Graph} → Row next n G → (s t : ℕ) → s < n → t < n → T (G.next s t) ↔ Has (held next s) t
+edge-is : {next : List Set} {n : ℕ} {G : Graph} → Row next n G → (s t : ℕ) → s < n → t < n → T (G.next s t) ↔ Has (held next s) t
 edge-is {next} R s t h l = (
   λ u. (has-test (held next s) t).0 (subst T (R.edges s t h l) u),
   λ u. subst T (sym (R.edges s t h l)) ((has-test (held next s) t).1 u),
@@ -43,7 +45,7 @@ edge-is {next} R s t h l = (
 abbrev Wanted : ℕ → Stages → ℕ → Type 0
 Wanted n x wanted = (t : ℕ) → Has wanted t ↔ ((t < n) × T (x t))
 
-module _ {next : List ℕ} {n : ℕ} {G : Graph} (R : Row next n G) (x : Stages) (wanted : ℕ) (is : Wanted n x wanted) where
+module _ {next : List Set} {n : ℕ} {G : Graph} (R : Row next n G) (x : Stages) (wanted : ℕ) (is : Wanted n x wanted) where
   -- A stage has a successor in x where its successors meet what is wanted.
   some-meets : (s : ℕ) → s < n → T (some_next G x s) ↔ Meets (held next s) wanted
   unfolding some_next
@@ -77,10 +79,10 @@ module _ {next : List ℕ} {n : ℕ} {G : Graph} (R : Row next n G) (x : Stages)
 -- ---- the walk over the stages asked
 
 -- Whether the set of stage k meets what is wanted, as 1 or 0: the test of the walk.
-abbrev pub meets? : List ℕ → ℕ → ℕ → ℕ
+abbrev pub meets? : List Set → ℕ → ℕ → ℕ
 meets? next wanted k = min (bit_and (held next k) wanted) 1
 
-module _ (next : List ℕ) (wanted : ℕ) {asked left found k left' after here : ℕ} (g : Gathered asked (meets? next wanted) left found)
+module _ (next : List Set) (wanted : ℕ) {asked left found k left' after here : ℕ} (g : Gathered asked (meets? next wanted) left found)
     (turn : Turn left k left') (l : after ≡ held next k) (e : here ≡ bit_and after wanted) where
   -- what the set of k, as it is loaded, has in common with what is wanted
   both : here ≡ bit_and (held next k) wanted
@@ -98,7 +100,7 @@ module _ (next : List ℕ) (wanted : ℕ) {asked left found k left' after here :
   walk-skip m f = gather-skip g turn (let z = (empty-zero here).0 m in omega (arith, both, z)) f
 
 -- After the last stage those are found whose sets meet what is wanted.
-pub walk_end : (next : List ℕ) (wanted : ℕ) {asked left found : ℕ} → Gathered asked (meets? next wanted) left found → Empty left
+pub walk_end : (next : List Set) (wanted : ℕ) {asked left found : ℕ} → Gathered asked (meets? next wanted) left found → Empty left
     → Meeting next asked wanted found
 walk_end next wanted g f = record {
   each = λ k.
@@ -120,7 +122,7 @@ but-those true true = refl
 but-those true false = refl
 but-those false e = refl
 
-module _ {next : List ℕ} {n all asked : ℕ} (among x : ℕ) (a : all ≡ below n) (f : asked ≡ bit_and among all) where
+module _ {next : List Set} {n all asked : ℕ} (among x : ℕ) (a : all ≡ below n) (f : asked ≡ bit_and among all) where
   -- Some successor is in x where the successors meet what x has below n.
   pub ready-some : {wanted r : ℕ} → wanted ≡ bit_and x all → Meeting next asked wanted r → Computes next n (ready_on Some among x) r
   unfolding step
@@ -162,7 +164,7 @@ module _ {next : List ℕ} {n all asked : ℕ} (among x : ℕ) (a : all ≡ belo
       )
 
 -- Where every stage is asked, it is the step.
-pub asked-all : {next : List ℕ} {n all r : ℕ} (which : Which) (x : ℕ) → all ≡ below n → Computes next n (ready_on which all x) r
+pub asked-all : {next : List Set} {n all r : ℕ} (which : Which) (x : ℕ) → all ≡ below n → Computes next n (ready_on which all x) r
     → Computes next n (step_on which x) r
 asked-all {all = all} which x a c =
     computes-as (λ G R s h. ap (λ (b : Bool). b && step which G (member x) s) (member-all a R.room s h)) c

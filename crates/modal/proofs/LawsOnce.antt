@@ -28,11 +28,11 @@ use Rattle.modal.proofs.LawsMember.{Agree}
 use Rattle.modal.proofs.LawsRounds.{rounds-same}
 
 -- The graph that a row of n sets is. Its predicates are true of nothing.
-abbrev pub row_graph : List ℕ → ℕ → Graph
+abbrev pub row_graph : List Set → ℕ → Graph
 row_graph next n = record { stages = n; next = λ s t. member (held next s) t; one = λ q a. false; two = λ q a b. false }
 
 -- Every row holds a graph, where there is room for its stages: no contract here is about nothing.
-pub row-holds : (next : List ℕ) (n : ℕ) → n ≤ width → Row next n (row_graph next n)
+pub row-holds : (next : List Set) (n : ℕ) → n ≤ width → Row next n (row_graph next n)
 row-holds next n w = record { room = w; stages = refl; edges = λ s t h i. refl }
 
 -- A set inside the stages that agrees with another on them lies in it.
@@ -40,7 +40,7 @@ agree-within : {n : ℕ} (r r' : ℕ) → Inside n r → Agree n (member r) (mem
 agree-within r r' i e k h = (has-test r' k).0 (subst T (e k (i k h)) ((has-test r k).1 h))
 
 -- Two numbers worked out for tests that agree on the stages are one.
-pub same_number : {next : List ℕ} {n r r' : ℕ} {op op' : Graph → Stages} → n ≤ width
+pub same_number : {next : List Set} {n r r' : ℕ} {op op' : Graph → Stages} → n ≤ width
     → ((G : Graph) → Row next n G → Agree n (op G) (op' G)) → Computes next n op r → Computes next n op' r' → r ≡ r'
 same_number {next} {n} {r} {r'} w same c d =
     let G = row_graph next n in
@@ -49,7 +49,7 @@ same_number {next} {n} {r} {r'} w same c d =
     within-antisym r r' (agree-within r r' c.inside e) (agree-within r' r d.inside (λ s h. sym (e s h)))
 
 -- Two sets that meet one contract are one set.
-pub same_set : {next : List ℕ} {n : ℕ} {op : Graph → Stages} (r r' : Set) → n ≤ width
+pub same_set : {next : List Set} {n : ℕ} {op : Graph → Stages} (r r' : Set) → n ≤ width
     → Computes next n op (number r) → Computes next n op (number r') → r ≡ r'
 same_set r r' w c d = set_same r r' (same_number w (λ G R s h. refl) c d)
 

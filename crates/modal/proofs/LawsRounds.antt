@@ -9,6 +9,7 @@
 --     eg-computes, af-computes             where no stage, or every stage, is the set beside the step
 --
 -- Assumes nothing.
+use Rattle.sets.specs.declared.Set.{Set}
 use mathlib.Core.Path.{◌≡◌, refl, sym, ap, ap₂, ◌∙◌, subst}
 use mathlib.Core.Bool.{Bool, true, false, not, ◌&&◌, ◌||◌}
 use mathlib.Core.List.{List}
@@ -82,7 +83,7 @@ grow-asks true a e = refl
 grow-asks false true e = refl
 grow-asks false false e = refl
 
-module _ {next : List ℕ} {n : ℕ} (which : Which) (a x : ℕ) {asked ready r : ℕ} (c : Computes next n (ready_on which asked x) ready) where
+module _ {next : List Set} {n : ℕ} (which : Which) (a x : ℕ) {asked ready r : ℕ} (c : Computes next n (ready_on which asked x) ready) where
   -- One that shrinks,
   pub shrink-computes : {released : ℕ} → released ≡ bit_and x a → asked ≡ x - bit_and x a → r ≡ bit_or released ready → Inside n x
       → Computes next n (round_on Shrink which a x) r
@@ -110,7 +111,7 @@ module _ {next : List ℕ} {n : ℕ} (which : Which) (a x : ℕ) {asked ready r 
 
 -- ---- the loop
 
-module _ {next : List ℕ} {n : ℕ} (way : Way) (which : Which) (a b : ℕ) where
+module _ {next : List Set} {n : ℕ} (way : Way) (which : Which) (a b : ℕ) where
   -- Before the first round, from a set inside the stages.
   pub loop-start : Inside n b → Computes next n (after_on 0 way which a b) b
   unfolding iter
@@ -148,21 +149,21 @@ pub clip-inside : {n all x : ℕ} (b : ℕ) → all ≡ below n → x ≡ bit_an
 clip-inside {all = all} b f e = inside-right b all e (inside-all f)
 
 -- and as it agrees with the set there, rounds from it are rounds from the set.
-pub clip-computes : {next : List ℕ} {n r all x : ℕ} (way : Way) (which : Which) (a b : ℕ) → all ≡ below n → x ≡ bit_and b all
+pub clip-computes : {next : List Set} {n r all x : ℕ} (way : Way) (which : Which) (a b : ℕ) → all ≡ below n → x ≡ bit_and b all
     → Computes next n (rounds_on way which a x) r → Computes next n (rounds_on way which a b) r
 clip-computes {x = x} way which a b f e c =
     computes-as (λ G R s h. rounds-same G.stages way which G (member a) (member a) (member x) (member b) (λ t i. refl)
     (λ t i. clip-agrees b f e R.room t (omega arith)) s (omega arith)) c
 
 -- Where a is empty, rounds that shrink by some successor are those of EG.
-pub eg-computes : {next : List ℕ} {n r : ℕ} (a b : ℕ) → a ≡ 0 → Computes next n (rounds_on Shrink Some a b) r → Computes next n (eg_of b) r
+pub eg-computes : {next : List Set} {n r : ℕ} (a b : ℕ) → a ≡ 0 → Computes next n (rounds_on Shrink Some a b) r → Computes next n (eg_of b) r
 unfolding step round
 eg-computes a b e c =
     computes-as (λ G R s h. rounds-same G.stages Shrink Some G (member a) (λ t. false) (member b) (member b)
     (λ t i. member-none e t) (λ t i. refl) s (omega arith)) c
 
 -- Where a has every stage, rounds that grow by each successor are those of AF.
-pub af-computes : {next : List ℕ} {n r : ℕ} (a b : ℕ) → a ≡ below n → Computes next n (rounds_on Grow Each a b) r → Computes next n (af_of b) r
+pub af-computes : {next : List Set} {n r : ℕ} (a b : ℕ) → a ≡ below n → Computes next n (rounds_on Grow Each a b) r → Computes next n (af_of b) r
 unfolding step round
 af-computes a b e c =
     computes-as (λ G R s h. rounds-same G.stages Grow Each G (member a) (λ t. true) (member b) (member b)

@@ -34,127 +34,111 @@ enum Way {
 }
 
 // Those of the stages `among` whose successors meet what is wanted.
-fn meeting(next: &[u64], among: Set, wanted: Set) -> Set
+fn meeting(next: &[Set], among: Set, wanted: Set) -> Set
     ensures { Meeting next.now (number among) (number wanted) (number result) }
 {
-    let mut left = among;
-    let mut found = sets::empty();
-    while !sets::is_empty(left) {
-        let s = sets::lowest(left);
-        let here = sets::common(sets::row::load(next, s), wanted);
-        if !sets::is_empty(here) {
-            found = sets::with(found, s);
+    let mut found = Set::empty();
+    for s in among.stages() {
+        let here = sets::row::load(next, s).common(wanted);
+        if !here.is_empty() {
+            found = found.with(s);
         }
-        left = sets::rest(left);
     }
     found
 }
 
 // Those of the stages `among` below n with some, or with each, successor in x. Each is in x where none is outside.
-fn ready(next: &[u64], n: usize, which: Which, among: Set, x: Set) -> Set
+fn ready(next: &[Set], n: usize, which: Which, among: Set, x: Set) -> Set
     ensures { Computes next.now n (ready_on which (number among) (number x)) (number result) }
 {
-    let all = sets::below(n);
-    let asked = sets::common(among, all);
+    let all = Set::below(n);
+    let asked = among.common(all);
     match which {
-        Which::Some => meeting(next, asked, sets::common(x, all)),
+        Which::Some => meeting(next, asked, x.common(all)),
         Which::Each => {
-            let outside = sets::minus(all, x);
-            sets::minus(asked, meeting(next, asked, outside))
+            let outside = all.minus(x);
+            asked.minus(meeting(next, asked, outside))
         }
     }
 }
 
 // EX: the stages below n with a successor in x.
-pub fn some_next(next: &[u64], n: usize, x: Set) -> Set
+pub fn some_next(next: &[Set], n: usize, x: Set) -> Set
     ensures { Computes next.now n (ex_of (number x)) (number result) }
 {
-    ready(next, n, Which::Some, sets::below(n), x)
+    ready(next, n, Which::Some, Set::below(n), x)
 }
 
 // EX, asked of the stages `among` only: those of them below n with a successor in x.
-pub fn some_next_among(next: &[u64], n: usize, among: Set, x: Set) -> Set
+pub fn some_next_among(next: &[Set], n: usize, among: Set, x: Set) -> Set
     ensures { Computes next.now n (ex_among (number among) (number x)) (number result) }
 {
     ready(next, n, Which::Some, among, x)
 }
 
 // AX: the stages below n all of whose successors are in x.
-pub fn each_next(next: &[u64], n: usize, x: Set) -> Set
+pub fn each_next(next: &[Set], n: usize, x: Set) -> Set
     ensures { Computes next.now n (ax_of (number x)) (number result) }
 {
-    ready(next, n, Which::Each, sets::below(n), x)
+    ready(next, n, Which::Each, Set::below(n), x)
 }
 
 // A round from x. One that shrinks keeps the stages with a, or with their successors in x; one that grows adds those with a and with
 // their successors in x. It looks at those stages only that it may take away, or add.
-fn round(next: &[u64], n: usize, way: Way, which: Which, a: Set, x: Set) -> Set
+fn round(next: &[Set], n: usize, way: Way, which: Which, a: Set, x: Set) -> Set
     ensures { Inside n (number x) → Computes next.now n (round_on way which (number a) (number x)) (number result) }
 {
     match way {
         Way::Shrink => {
-            let released = sets::common(x, a);
-            let stays = ready(next, n, which, sets::minus(x, a), x);
-            sets::union(released, stays)
+            let released = x.common(a);
+            let stays = ready(next, n, which, x.minus(a), x);
+            released.union(stays)
         }
         Way::Grow => {
-            let added = ready(next, n, which, sets::minus(a, x), x);
-            sets::union(x, added)
+            let added = ready(next, n, which, a.minus(x), x);
+            x.union(added)
         }
-    }
-}
-
-// Whether two sets have the same stages.
-fn same(a: Set, b: Set) -> bool
-    ensures { Decides result (number a ≡ number b) }
-{
-    if sets::subset(a, b) {
-        sets::subset(b, a)
-    } else {
-        false
     }
 }
 
 // n rounds from what b has below n, or as many as it takes until one changes nothing.
-fn rounds(next: &[u64], n: usize, way: Way, which: Which, a: Set, b: Set) -> Set
+fn rounds(next: &[Set], n: usize, way: Way, which: Which, a: Set, b: Set) -> Set
     ensures { Computes next.now n (rounds_on way which (number a) (number b)) (number result) }
 {
-    let mut x = sets::common(b, sets::below(n));
-    let mut k = 0;
-    while k < n {
+    let mut x = b.common(Set::below(n));
+    for _ in 0..n {
         let y = round(next, n, way, which, a, x);
-        if same(x, y) {
+        if x == y {
             return x;
         }
         x = y;
-        k += 1;
     }
     x
 }
 
 // EG a: the stages below n from which some path has a for ever.
-pub fn eg(next: &[u64], n: usize, a: Set) -> Set
+pub fn eg(next: &[Set], n: usize, a: Set) -> Set
     ensures { Computes next.now n (eg_of (number a)) (number result) }
 {
-    rounds(next, n, Way::Shrink, Which::Some, sets::empty(), a)
+    rounds(next, n, Way::Shrink, Which::Some, Set::empty(), a)
 }
 
 // AF a: the stages below n from which every path comes to a.
-pub fn af(next: &[u64], n: usize, a: Set) -> Set
+pub fn af(next: &[Set], n: usize, a: Set) -> Set
     ensures { Computes next.now n (af_of (number a)) (number result) }
 {
-    rounds(next, n, Way::Grow, Which::Each, sets::below(n), a)
+    rounds(next, n, Way::Grow, Which::Each, Set::below(n), a)
 }
 
 // AR a b: the stages below n from which every path has b as far as a stage with a, which releases it, and for ever where none comes.
-pub fn ar(next: &[u64], n: usize, a: Set, b: Set) -> Set
+pub fn ar(next: &[Set], n: usize, a: Set, b: Set) -> Set
     ensures { Computes next.now n (ar_of (number a) (number b)) (number result) }
 {
     rounds(next, n, Way::Shrink, Which::Each, a, b)
 }
 
 // EU a b: the stages below n from which some path has a until it comes to b.
-pub fn eu(next: &[u64], n: usize, a: Set, b: Set) -> Set
+pub fn eu(next: &[Set], n: usize, a: Set, b: Set) -> Set
     ensures { Computes next.now n (eu_of (number a) (number b)) (number result) }
 {
     rounds(next, n, Way::Grow, Which::Some, a, b)

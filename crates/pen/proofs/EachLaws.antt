@@ -1,28 +1,25 @@
--- A loop over the successors of a stage, lowest first: `t = lowest(there)`, something with t, `there = rest(there)`, until `there` is empty. It writes at
--- each successor, ascending, as `through` does.
+-- A loop over the successors of a stage, lowest first, as `Set::stages` goes. It writes at each successor, ascending, as `through` does.
 --
 --     Turns                     the invariant: what is to be written at the successors below a number is, and those from there on are left
---     turn-of                   a turn, from what the contracts of `is_empty`, `lowest` and `rest` say
 --     each_start, each-stage, each-edge, each_next, each-end
 --                               the loop over the successors of a stage of an image
-use Prim.Native.Nat.{ℕ, zero, suc, ◌-◌, ◌^◌, ◌≤◌, ◌<◌}
+use Prim.Native.Nat.{ℕ, zero, suc, ◌^◌, ◌≤◌, ◌<◌}
 use native.Mathlib.Omega.{arith}
 use mathlib.Core.Path.{◌≡◌, refl, sym, ap, ap₂, subst, ◌∙◌}
 use mathlib.Core.Bool.{Bool, true, false}
 use mathlib.Core.List.{List, ◌++◌, append-nil}
 use mathlib.Core.Logic.{◌↔◌, ◌≢◌, ⊎_elim}
-use lib.Bits.{bit_and}
 use lib.Count.{count_trailing_zeros}
 use lib.Dec.{T}
 use lib.ListN.{length}
-use Rattle.model.specs.Decides.{Decides, decided, refuted}
+use Rattle.sets.specs.declared.Set.{Set}
+use Rattle.sets.specs.Walk.{Turn}
 use Rattle.model.specs.Graph.{Graph, Next}
 use Rattle.sets.specs.Member.{Has, Empty}
 use Rattle.sets.specs.Number.{width}
 use Rattle.sets.specs.Row.{held}
 use Rattle.sets.proofs.LawsMember.{side?, has-test, empty-zero}
 use Rattle.sets.proofs.LawsLowest.{lowest-le, lowest-has, has_rest, rest-small}
-use Rattle.sets.proofs.LawsWalk.{Turn}
 use Rattle.modal.specs.Row.{Row}
 use Rattle.written.specs.Written.{visit, through}
 use Rattle.pen.specs.Wrote.{Wrote}
@@ -52,11 +49,6 @@ pub record Turns (n : ℕ) (next : ℕ → Bool) (f : ℕ → List ℕ) (w : Boo
   pub small : there < 2 ^ width
   pub rest : (t : ℕ) → Has there t ↔ (T (next t) × ((t < n) × (from ≤ t)))
   pub wrote : Wrote w (through from next f) place before left here
-
--- A turn, as the code's tests and calls tell it.
-pub turn-of : {there k others : ℕ} (e : Bool) → Decides e (Empty there) → e ≡ false → k ≡ count_trailing_zeros width there
-    → others ≡ bit_and there (there - 1) → Turn there k others
-turn-of {there} e d t k-is rest-is = record { some = refuted (Empty there) d t; lowest = k-is; others = rest-is }
 
 module _ (n : ℕ) (next : ℕ → Bool) (f : ℕ → List ℕ) (w : Bool) (place : ℕ) (before : List ℕ) where
   -- At the start every successor is left.
@@ -129,18 +121,18 @@ module _ (n : ℕ) (next : ℕ → Bool) (f : ℕ → List ℕ) (w : Bool) (plac
 
 -- ---- the successors of a stage
 
-module _ {next : List ℕ} {n : ℕ} {G : Graph} (row : Row next n G) {s : ℕ} (at : s < n) (f : ℕ → List ℕ) (w : Bool) (place : ℕ) (before : List ℕ) where
+module _ {next : List Set} {n : ℕ} {G : Graph} (row : Row next n G) {s : ℕ} (at : s < n) (f : ℕ → List ℕ) (w : Bool) (place : ℕ) (before : List ℕ) where
   abbrev pub Each : ℕ → List ℕ → ℕ → Type 0
   Each there left here = Turns G.stages (G.next s) f w place before there left here
 
-  pub each_start : {there : ℕ} → place ≤ suc (length before) → there < 2 ^ width → NextOf next n s there → Each there before place
-  each_start {there} h small t_of =
+  pub each_start : {there first : ℕ} → place ≤ suc (length before) → there < 2 ^ width → first ≡ there → NextOf next n s there → Each first before place
+  each_start {there} h small is t_of = rw is (
       turns-start G.stages (G.next s) f w place before h small (λ t. (
         λ g. let m = (t_of.each t).0 g in
             (subst T (sym (row.edges s t at m.1)) ((has-test (held next s) t).1 m.0), omega (arith, row.stages, m.1)),
         λ g. let l : t < n = omega (arith, row.stages, g.1) in
             (t_of.each t).1 ((has-test (held next s) t).0 (subst T (row.edges s t at l) g.0), l),
-      ))
+      )))
 
   module _ {there k others here : ℕ} {left : List ℕ} (g : Each there left here) (turn : Turn there k others) where
     pub each-stage : k < n
@@ -152,6 +144,5 @@ module _ {next : List ℕ} {n : ℕ} {G : Graph} (row : Row next n G) {s : ℕ} 
     pub each_next : {last : List ℕ} {after : ℕ} → Wrote w (f k) here left last after → Each others last after
     each_next wrote = turns_next G.stages (G.next s) f w place before g turn wrote
 
-  pub each-end : {there here : ℕ} {left : List ℕ} → Each there left here → (e : Bool) → Decides e (Empty there) → e ≡ true
-      → Wrote w (through G.stages (G.next s) f) place before left here
-  each-end {there} g e d n-e = turns-end G.stages (G.next s) f w place before g (decided (Empty there) d n-e)
+  pub each-end : {there here : ℕ} {left : List ℕ} → Each there left here → Empty there → Wrote w (through G.stages (G.next s) f) place before left here
+  each-end g none = turns-end G.stages (G.next s) f w place before g none

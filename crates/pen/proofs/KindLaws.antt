@@ -10,6 +10,7 @@ use mathlib.Core.Bool.{Bool, true, false}
 use mathlib.Core.List.{List, [], ◌∷◌, ◌++◌}
 use mathlib.Core.Logic.{◌⊎◌, inl, inr, ⊎_elim}
 use lib.Dec.{T}
+use Rattle.sets.specs.declared.Set.{Set}
 use Rattle.model.specs.Formula.{Formula, truth, falsity, is, is_not, and, or, AX, EX, AF, EG, AR, EU, Term}
 use Rattle.logic.specs.Rules.{empty}
 use Rattle.logic.specs.Test.{test, each_next, some_next, af, eg, ar, eu}
@@ -24,7 +25,7 @@ use Rattle.rules.specs.Kind.{Kind as RuleKind}
 use Rattle.rules.specs.Table.{row}
 use Rattle.rules.specs.declared.Rule.{Rule}
 use Rattle.hand.specs.Environment.{env_of}
-use Rattle.hand.specs.Setup.{HeldEntry, entry_of}
+use Rattle.hand.specs.Setup.{entry_at, entry_of}
 use Rattle.hand.specs.Side.{sided, kind_on, number_of}
 use Rattle.hand.specs.declared.env.Env.{Env as Slots}
 use Rattle.hand.specs.declared.setup.Entry.{Entry}
@@ -95,10 +96,10 @@ on image table side o = sided side (tree_of image table o)
 lower : (image table : List ℕ) (side e o : ℕ) → o < e → sided side (nth (trees image table e) o) ≡ on image table side o
 lower image table side e o h = ap (sided side) (tree-at image table e o h)
 
-module _ {image table next entries : List ℕ} {side e : ℕ} {env : Slots} where
-  -- What the bytes hold with the entry's number is its record, prepared.
-  pub fields : {p : Entry} → Holding image table next entries side e env → HeldEntry entries e p → Fields p side (record_at table e)
-  fields {p} h held = fields-of image side (record_at table e) p (held.is ∙ h.setup.prepared e h.entry)
+module _ {image table : List ℕ} {next : List Set} {entries : List Entry} {side e : ℕ} {env : Slots} where
+  -- What stands at the entry's number is its record, prepared.
+  pub fields : {p : Entry} → Holding image table next entries side e env → p ≡ entry_at entries e → Fields p side (record_at table e)
+  fields {p} h held = fields-of image side (record_at table e) p (held ∙ h.setup.prepared e h.entry)
 
   -- The entry keeps the rules of its kind.
   pub rule-of : {k : Kind} → InHand image table next entries side e env k → RuledAs (sort_of k) image e (record_at table e)
@@ -115,7 +116,7 @@ module _ {image table next entries : List ℕ} {side e : ℕ} {env : Slots} wher
       (number-back (kind_on side (kind_of (record_at table e).kind)) j (ap kind_of (sym f.kind) ∙ sym k-is ∙ told))
 
   -- So it is in an arm of the code, where the entry was read and its number gave the kind.
-  pub in_arm : {p : Entry} {k j : Kind} → Holding image table next entries side e env → HeldEntry entries e p → k ≡ kind_of p.kind → k ≡ j
+  pub in_arm : {p : Entry} {k j : Kind} → Holding image table next entries side e env → p ≡ entry_at entries e → k ≡ kind_of p.kind → k ≡ j
       → InHand image table next entries side e env j
   in_arm h held k-is told = kind-told h (fields h held) k-is told
 

@@ -19,12 +19,13 @@ use mathlib.Core.List.{List, [], ◌∷◌, ◌++◌, append_assoc}
 use mathlib.Core.Logic.{⊎_elim}
 use lib.Bits.{bit_or}
 use lib.Dec.{T}
-use lib.ListN.{length, get_or, set, replicate}
+use lib.ListN.{length, get_or, set, replicate, length-replicate, get_or-replicate, get_or-eq_default}
 use lib.Seq.{get_or-set_same, get_or-set_other, set_out}
+use Rattle.hand.specs.declared.setup.Entry.{Entry}
+use Rattle.sets.specs.declared.Set.{Set}
 use Rattle.logic.specs.Rules.{Walk, empty, also, On}
 use Rattle.logic.specs.Test.{Stages, eg, eu}
 use Rattle.sets.specs.Number.{single, width}
-use Rattle.sets.specs.Row.{held}
 use Rattle.sets.proofs.LawsMember.{same?, side?}
 use Rattle.format.specs.Image.{stages_of, graph_of}
 use Rattle.format.specs.declared.record.Kind.TheVariants as K
@@ -33,7 +34,6 @@ use Rattle.rules.specs.Table.{row}
 use Rattle.rules.specs.declared.Rule.{Rule}
 use Rattle.hand.specs.Environment.{env_of}
 use Rattle.hand.specs.declared.env.Env.{Env as Slots}
-use Rattle.hand.proofs.SetupLaws.{zeros}
 use Rattle.verdict.specs.Evaluation.{Collects}
 use Rattle.written.specs.Choice.{lowest_next, nearest}
 use Rattle.written.specs.Written.{through, no_entry}
@@ -89,7 +89,7 @@ module _ (image table : List ℕ) (side : ℕ) (env : Slots) {o o' : ℕ} (o_is 
 
 -- ---- AF
 
-module _ {image table next entries : List ℕ} {side e : ℕ} {env : Slots} {stop s left : ℕ} {lens : List ℕ}
+module _ {image table : List ℕ} {next : List Set} {entries : List Entry} {side e : ℕ} {env : Slots} {stop s left : ℕ} {lens : List ℕ}
     (at : AfAt image table next entries side e env stop s left lens) where
   -- Now.
   pub af-now-steps : T ((a_of image table side e (env_of env)).holds s)
@@ -120,9 +120,14 @@ module _ {image table next entries : List ℕ} {side e : ℕ} {env : Slots} {sto
     known-fits h = rw counts (record { goes = omega (arith, long); leaves = refl })
 
 -- No length is known yet.
-pub noted-new : (image table : List ℕ) (side e : ℕ) (env : Slots) → Noted image table side e (env_of env) (replicate width 0)
-unfolding held
-noted-new image table side e env = record { each = λ s h. absurd (omega (arith, zeros width s)) }
+abbrev none-known : List ℕ
+none-known = replicate width 0
+
+pub noted-new : (image table : List ℕ) (side e : ℕ) (env : Slots) → Noted image table side e (env_of env) none-known
+noted-new image table side e env = record { each = λ s h. absurd (omega (arith, none s, h)) }
+  where
+    none : (s : ℕ) → get_or none-known s 0 ≡ 0
+    none s = ⊎_elim (get_or-replicate width s 0 0) (λ h. get_or-eq_default none-known 0 {n = s} (omega (arith, length-replicate {A = ℕ} width 0, h))) (side? s width)
 
 -- A length that the buffer has room for is noted, where there is room for it.
 pub noted_more : (image table : List ℕ) (side e : ℕ) (env : Slots) {lens : List ℕ} {w : Bool} (s : ℕ) {p q : ℕ} {l k : List ℕ}
@@ -146,7 +151,7 @@ pub record EgGoing (image table : List ℕ) (side e : ℕ) (env : Slots) (w : Bo
   pub below : s < stages_of image
   pub holds : T (eg (graph_of image) (a_of image table side e (env_of env)).holds s)
 
-module _ {image table next entries : List ℕ} {side e : ℕ} {env : Slots} where
+module _ {image table : List ℕ} {next : List Set} {entries : List Entry} {side e : ℕ} {env : Slots} where
   -- At the start.
   pub eg-begins : {n walk s : ℕ} → InHand image table next entries side e env K.EG → n ≡ stages_of image → walk ≡ 0
       → s ≡ start_of image table side e (env_of env)
@@ -248,7 +253,7 @@ pub record EuGoing (image table : List ℕ) (side e : ℕ) (env : Slots) (w : Bo
   pub below : s < stages_of image
   pub holds : T (eu (graph_of image) (a_of image table side e (env_of env)).holds (b_of image table side e (env_of env)).holds s)
 
-module _ {image table next entries : List ℕ} {side e : ℕ} {env : Slots} where
+module _ {image table : List ℕ} {next : List Set} {entries : List Entry} {side e : ℕ} {env : Slots} where
   -- AR and EU at the start.
   pub ar-begins : {n walk s : ℕ} → InHand image table next entries side e env K.AR → n ≡ stages_of image → walk ≡ 0
       → s ≡ start_of image table side e (env_of env)

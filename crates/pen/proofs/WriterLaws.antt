@@ -20,6 +20,7 @@ use lib.Bits.{bit_or}
 use lib.Dec.{T, eqb}
 use lib.ListN.{length}
 use borrow.Author.Tests.{eq-eqb, ne_eqb}
+use Rattle.sets.specs.declared.Set.{Set}
 use Rattle.model.specs.Decides.{Decides}
 use Rattle.model.specs.Formula.{Env, bind, value}
 use Rattle.logic.specs.Rules.{empty, also, On}
@@ -56,7 +57,7 @@ term-at : {n t : ℕ} {c : Env} → n ≤ 64 → Stand n c → IsTerm n t → va
 term-at {n} {t} {c} w d (a_stage h) = subst (λ (k : ℕ). k < n) (stage-value c t (omega arith)) h
 term-at {n} {t} {c} w d (a_variable h l) = subst (λ (k : ℕ). k < n) (variable-value c t h) (d _)
 
-module _ {image table next entries : List ℕ} {side e : ℕ} {env : Slots} (h : Holding image table next entries side e env) where
+module _ {image table : List ℕ} {next : List Set} {entries : List Entry} {side e : ℕ} {env : Slots} (h : Holding image table next entries side e env) where
   -- A walk starts at its term's stage,
   pub start_is : {p : Entry} {s : ℕ} → Fields p side (record_at table e) → s ≡ value (env_of env) (term_of p.t) → s ≡ start_of image table side e (env_of env)
   start_is f s-is = s-is ∙ ap (λ (t : ℕ). value (env_of env) (term_of t)) f.t
@@ -156,7 +157,7 @@ pub walk_none : {set : ℕ} → set ≡ 0 → walk_of set ≡ empty
 walk_none {set} e = fun_ext (λ t. ne_eqb (bit set t) 1 (λ h. omega (arith, ap (λ (z : ℕ). bit z t) e, bit-zero t)))
 
 -- The set of a stage in the row is its successors, all of which are below n.
-pub next-all : {image table next entries : List ℕ} {side s there : ℕ} → Setup image table next entries side → s < stages_of image → there ≡ held next s
+pub next-all : {image table : List ℕ} {next : List Set} {entries : List Entry} {side s there : ℕ} → Setup image table next entries side → s < stages_of image → there ≡ held next s
     → NextOf next (stages_of image) s there
 next-all {next = next} {s = s} {there = there} u h e = record {
   each = λ t. (

@@ -1,6 +1,8 @@
 -- What each writer of steps writes, in the words of the crate `written` (`written`, `along`): the steps for the formula that an entry of the table has on a
 -- side, with the walk held as a set, as the checker reads them (`walk_of` is its own). And what a writer goes by. Nothing that document 01 states is
 -- defined here.
+use Rattle.hand.specs.declared.setup.Entry.{Entry as Prepared}
+use Rattle.sets.specs.declared.Set.{Set}
 use Rattle.std.specs.Prelude.{ℕ, suc, ◌+◌, ◌≤◌, ◌<◌, ◌≡◌, List, ◌++◌, ◌↔◌, T, length, get_or}
 use Rattle.model.specs.Graph.{Graph, Readable}
 use Rattle.model.specs.Formula.{Env, bind, value}
@@ -66,7 +68,7 @@ module _ (image table : List ℕ) (side : ℕ) where
 
 -- What is the same for a whole certificate: the row holds the successor sets of a readable graph, every record keeps its rules, and the entries are
 -- prepared on the side.
-pub record Setup (image table next entries : List ℕ) (side : ℕ) : Type 0 where
+pub record Setup (image table : List ℕ) (next : List Set) (entries : List Prepared) (side : ℕ) : Type 0 where
   pub row : Row next (stages_of image) (graph_of image)
   pub sets : (s : ℕ) → s < stages_of image → SuccessorsOf image s (held next s)
   pub readable : Readable (graph_of image)
@@ -75,19 +77,19 @@ pub record Setup (image table next entries : List ℕ) (side : ℕ) : Type 0 whe
   pub prepared : (i : ℕ) → i < entries_of table → entry_at entries i ≡ entry_of image side (record_at table i)
 
 -- The formula of an entry holds on the side, where the variables stand at stages.
-pub record Holding (image table next entries : List ℕ) (side e : ℕ) (env : Slots) : Type 0 where
+pub record Holding (image table : List ℕ) (next : List Set) (entries : List Prepared) (side e : ℕ) (env : Slots) : Type 0 where
   pub setup : Setup image table next entries side
   pub entry : e < entries_of table
   pub stand : Stand (stages_of image) (env_of env)
   pub holds : T (truth_on image table side e env)
 
 -- It is of a kind there.
-pub record InHand (image table next entries : List ℕ) (side e : ℕ) (env : Slots) (k : Kind) : Type 0 where
+pub record InHand (image table : List ℕ) (next : List Set) (entries : List Prepared) (side e : ℕ) (env : Slots) (k : Kind) : Type 0 where
   pub holding : Holding image table next entries side e env
   pub kind : kind_on side (kind_of (record_at table e).kind) ≡ k
 
 -- The set r holds the successors of s below n, in a row of successor sets.
-pub record NextOf (next : List ℕ) (n s r : ℕ) : Type 0 where
+pub record NextOf (next : List Set) (n s r : ℕ) : Type 0 where
   pub each : (t : ℕ) → Has r t ↔ (Has (held next s) t × (t < n))
 
 -- AF of a is reached from s in fewer rounds than there is fuel.
@@ -101,7 +103,7 @@ pub record Noted (image table : List ℕ) (side e : ℕ) (env : Env) (lens : Lis
   pub each : (s : ℕ) → 0 < get_or lens s 0 → get_or lens s 0 ≡ length (af_steps image table side e env s)
 
 -- A walk of AF is at a stage: the set has the stages at which it goes now.
-pub record AfAt (image table next entries : List ℕ) (side e : ℕ) (env : Slots) (stop s left : ℕ) (lens : List ℕ) : Type 0 where
+pub record AfAt (image table : List ℕ) (next : List Set) (entries : List Prepared) (side e : ℕ) (env : Slots) (stop s left : ℕ) (lens : List ℕ) : Type 0 where
   pub hand : InHand image table next entries side e env K.AF
   pub stops : Collects (stages_of image) (a_of image table side e (env_of env)).holds stop
   pub below : s < stages_of image
@@ -110,7 +112,7 @@ pub record AfAt (image table next entries : List ℕ) (side e : ℕ) (env : Slot
   pub noted : Noted image table side e (env_of env) lens
 
 -- A walk of AR is at a stage: the set has the stages at which it is released.
-pub record ArAt (image table next entries : List ℕ) (side e : ℕ) (env : Slots) (stop s left : ℕ) : Type 0 where
+pub record ArAt (image table : List ℕ) (next : List Set) (entries : List Prepared) (side e : ℕ) (env : Slots) (stop s left : ℕ) : Type 0 where
   pub hand : InHand image table next entries side e env K.AR
   pub stops : Collects (stages_of image) (a_of image table side e (env_of env)).holds stop
   pub below : s < stages_of image

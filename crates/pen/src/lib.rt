@@ -10,14 +10,16 @@ ghost use Rattle.pen.specs.Steps.{whole_bytes, Holding};
 
 use hand::env::Env;
 use hand::setup;
+use hand::setup::Entry;
+use sets::Set;
 
 // One run over the certificate of a side on which the goal holds: its header, and its steps. Where `writing` the bytes go to the buffer, each where there
 // is room for it; else they are only counted. Returns how many they are, or one more than the buffer has where they do not fit.
 pub fn whole(
     image: &[u8],
     table: &[u8],
-    next: &[u64; setup::NEXT],
-    entries: &[u8; setup::ENTRIES],
+    next: &[Set; setup::NEXT],
+    entries: &[Entry; setup::ENTRIES],
     side: u8,
     writing: bool,
     goal: u8,

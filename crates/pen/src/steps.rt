@@ -19,6 +19,7 @@ use format::record::Kind;
 use format::{byte, record};
 use guide::sides;
 use hand::env::Env;
+use hand::setup::Entry;
 use hand::{env, setup};
 use rules::Rule;
 use sets::Set;
@@ -28,8 +29,8 @@ use sets::Set;
 pub(crate) fn formula(
     image: &[u8],
     table: &[u8],
-    next: &[u64; setup::NEXT],
-    entries: &[u8; setup::ENTRIES],
+    next: &[Set; setup::NEXT],
+    entries: &[Entry; setup::ENTRIES],
     side: u8,
     write: bool,
     e: u8,
@@ -40,7 +41,7 @@ pub(crate) fn formula(
     requires { Holding image.now table.now next.now entries.now side e env }
     ensures { Wrote write (entry_steps image.now table.now side e (env_of env)) at out.old out.new result }
 {
-    let f = setup::entry_at(entries, e);
+    let f = entries[e as usize];
     match record::kind_of(f.kind) {
         Kind::True => put(out, write, at, Rule::True.code()),
         Kind::False => at,
@@ -67,8 +68,8 @@ pub(crate) fn formula(
 fn or(
     image: &[u8],
     table: &[u8],
-    next: &[u64; setup::NEXT],
-    entries: &[u8; setup::ENTRIES],
+    next: &[Set; setup::NEXT],
+    entries: &[Entry; setup::ENTRIES],
     side: u8,
     write: bool,
     e: u8,
@@ -82,7 +83,7 @@ fn or(
     if out.len() < at {
         return out.len() + 1;
     }
-    let f = setup::entry_at(entries, e);
+    let f = entries[e as usize];
     if sides::holds_on(image, table, next, byte(image, 5) as usize, side, f.a, env) {
         let on = put(out, write, at, Rule::OrLeft.code());
         return formula(image, table, next, entries, side, write, f.a, env, out, on);
@@ -96,8 +97,8 @@ fn or(
 fn ax(
     image: &[u8],
     table: &[u8],
-    next: &[u64; setup::NEXT],
-    entries: &[u8; setup::ENTRIES],
+    next: &[Set; setup::NEXT],
+    entries: &[Entry; setup::ENTRIES],
     side: u8,
     write: bool,
     e: u8,
@@ -111,14 +112,12 @@ fn ax(
     if out.len() < at {
         return out.len() + 1;
     }
-    let f = setup::entry_at(entries, e);
-    let mut there = sets::row::load(next, env::stage_of(f.t, env) as usize);
+    let f = entries[e as usize];
+    let there = sets::row::load(next, env::stage_of(f.t, env) as usize);
     let mut here = put(out, write, at, Rule::Ax.code());
-    while !sets::is_empty(there) {
-        let t = sets::lowest(there) as u8;
-        let to = env.bound(f.x, t);
+    for t in there.stages() {
+        let to = env.bound(f.x, t as u8);
         here = formula(image, table, next, entries, side, write, f.a, to, out, here);
-        there = sets::rest(there);
     }
     here
 }
@@ -128,8 +127,8 @@ fn ax(
 fn ex(
     image: &[u8],
     table: &[u8],
-    next: &[u64; setup::NEXT],
-    entries: &[u8; setup::ENTRIES],
+    next: &[Set; setup::NEXT],
+    entries: &[Entry; setup::ENTRIES],
     side: u8,
     write: bool,
     e: u8,
@@ -143,7 +142,7 @@ fn ex(
     if out.len() < at {
         return out.len() + 1;
     }
-    let f = setup::entry_at(entries, e);
+    let f = entries[e as usize];
     let n = byte(image, 5) as usize;
     let s = env::stage_of(f.t, env);
     let c = guide::ex(image, table, next, n, side, f.a, env, f.x, s);
@@ -160,8 +159,8 @@ fn ex(
 fn af_from(
     image: &[u8],
     table: &[u8],
-    next: &[u64; setup::NEXT],
-    entries: &[u8; setup::ENTRIES],
+    next: &[Set; setup::NEXT],
+    entries: &[Entry; setup::ENTRIES],
     side: u8,
     write: bool,
     e: u8,
@@ -175,7 +174,7 @@ fn af_from(
     if out.len() < at {
         return out.len() + 1;
     }
-    let f = setup::entry_at(entries, e);
+    let f = entries[e as usize];
     let n = byte(image, 5) as usize;
     let stop = sides::where_on(image, table, next, n, side, f.a, env, f.x);
     let mut lens = [0u64; sets::WIDTH];
@@ -203,8 +202,8 @@ fn af_from(
 fn af(
     image: &[u8],
     table: &[u8],
-    next: &[u64; setup::NEXT],
-    entries: &[u8; setup::ENTRIES],
+    next: &[Set; setup::NEXT],
+    entries: &[Entry; setup::ENTRIES],
     side: u8,
     write: bool,
     e: u8,
@@ -247,8 +246,8 @@ fn af(
 fn af_step(
     image: &[u8],
     table: &[u8],
-    next: &[u64; setup::NEXT],
-    entries: &[u8; setup::ENTRIES],
+    next: &[Set; setup::NEXT],
+    entries: &[Entry; setup::ENTRIES],
     side: u8,
     write: bool,
     e: u8,
@@ -264,16 +263,15 @@ fn af_step(
     ensures { Wrote write (af_steps image.now table.now side e (env_of env) s) at out.old out.new result
         × Noted image.now table.now side e (env_of env) lens.new }
 {
-    if sets::has(stop, s as usize) {
-        let f = setup::entry_at(entries, e);
+    if stop.has(s as usize) {
+        let f = entries[e as usize];
         let on = put(out, write, at, Rule::AfNow.code());
         let to = env.bound(f.x, s);
         return formula(image, table, next, entries, side, write, f.a, to, out, on);
     }
     let mut here = put(out, write, at, Rule::AfLater.code());
-    let mut there = sets::row::load(next, s as usize);
-    while !sets::is_empty(there) {
-        let t = sets::lowest(there) as u8;
+    let there = sets::row::load(next, s as usize);
+    for t in there.stages() {
         here = af(
             image,
             table,
@@ -284,13 +282,12 @@ fn af_step(
             e,
             env,
             stop,
-            t,
+            t as u8,
             left - 1,
             lens,
             out,
             here,
         );
-        there = sets::rest(there);
     }
     here
 }
@@ -300,8 +297,8 @@ fn af_step(
 fn eg(
     image: &[u8],
     table: &[u8],
-    next: &[u64; setup::NEXT],
-    entries: &[u8; setup::ENTRIES],
+    next: &[Set; setup::NEXT],
+    entries: &[Entry; setup::ENTRIES],
     side: u8,
     write: bool,
     e: u8,
@@ -315,16 +312,16 @@ fn eg(
     if out.len() < at {
         return out.len() + 1;
     }
-    let f = setup::entry_at(entries, e);
+    let f = entries[e as usize];
     let n = byte(image, 5) as usize;
     let mut toward = [0u8; sets::WIDTH];
     guide::eg(image, table, next, n, side, f.a, env, f.x, &mut toward);
-    let mut walk = sets::empty();
+    let mut walk = Set::empty();
     let mut s = env::stage_of(f.t, env);
     let mut left = n + 1;
     let mut here = at;
     while 0 < left {
-        if sets::has(walk, s as usize) {
+        if walk.has(s as usize) {
             return put(out, write, here, Rule::EgMerge.code());
         }
         let c = toward[s as usize];
@@ -334,7 +331,7 @@ fn eg(
         here = formula(
             image, table, next, entries, side, write, f.a, to, out, chosen,
         );
-        walk = sets::with(walk, s as usize);
+        walk = walk.with(s as usize);
         s = c;
         left = left - 1;
     }
@@ -346,8 +343,8 @@ fn eg(
 fn ar_from(
     image: &[u8],
     table: &[u8],
-    next: &[u64; setup::NEXT],
-    entries: &[u8; setup::ENTRIES],
+    next: &[Set; setup::NEXT],
+    entries: &[Entry; setup::ENTRIES],
     side: u8,
     write: bool,
     e: u8,
@@ -361,7 +358,7 @@ fn ar_from(
     if out.len() < at {
         return out.len() + 1;
     }
-    let f = setup::entry_at(entries, e);
+    let f = entries[e as usize];
     let n = byte(image, 5) as usize;
     let stop = sides::where_on(image, table, next, n, side, f.a, env, f.x);
     ar(
@@ -374,7 +371,7 @@ fn ar_from(
         e,
         env,
         stop,
-        sets::empty(),
+        Set::empty(),
         env::stage_of(f.t, env),
         n + 1,
         out,
@@ -387,8 +384,8 @@ fn ar_from(
 fn ar(
     image: &[u8],
     table: &[u8],
-    next: &[u64; setup::NEXT],
-    entries: &[u8; setup::ENTRIES],
+    next: &[Set; setup::NEXT],
+    entries: &[Entry; setup::ENTRIES],
     side: u8,
     write: bool,
     e: u8,
@@ -410,11 +407,11 @@ fn ar(
     if left == 0 {
         return at;
     }
-    if sets::has(walk, s as usize) {
+    if walk.has(s as usize) {
         return put(out, write, at, Rule::ArMerge.code());
     }
-    let f = setup::entry_at(entries, e);
-    if sets::has(stop, s as usize) {
+    let f = entries[e as usize];
+    if stop.has(s as usize) {
         let on = put(out, write, at, Rule::ArRelease.code());
         let to = env.bound(f.x, s);
         let a = formula(image, table, next, entries, side, write, f.a, to, out, on);
@@ -424,10 +421,9 @@ fn ar(
     let on = put(out, write, at, Rule::ArOn.code());
     let to = env.bound(f.y, s);
     let mut here = formula(image, table, next, entries, side, write, f.b, to, out, on);
-    let longer = sets::with(walk, s as usize);
-    let mut there = sets::row::load(next, s as usize);
-    while !sets::is_empty(there) {
-        let t = sets::lowest(there) as u8;
+    let longer = walk.with(s as usize);
+    let there = sets::row::load(next, s as usize);
+    for t in there.stages() {
         here = ar(
             image,
             table,
@@ -439,12 +435,11 @@ fn ar(
             env,
             stop,
             longer,
-            t,
+            t as u8,
             left - 1,
             out,
             here,
         );
-        there = sets::rest(there);
     }
     here
 }
@@ -454,8 +449,8 @@ fn ar(
 fn eu(
     image: &[u8],
     table: &[u8],
-    next: &[u64; setup::NEXT],
-    entries: &[u8; setup::ENTRIES],
+    next: &[Set; setup::NEXT],
+    entries: &[Entry; setup::ENTRIES],
     side: u8,
     write: bool,
     e: u8,
@@ -469,7 +464,7 @@ fn eu(
     if out.len() < at {
         return out.len() + 1;
     }
-    let f = setup::entry_at(entries, e);
+    let f = entries[e as usize];
     let n = byte(image, 5) as usize;
     let mut toward = [0u8; sets::WIDTH];
     let now = guide::eu(
@@ -489,7 +484,7 @@ fn eu(
     let mut left = n + 1;
     let mut here = at;
     while 0 < left {
-        if sets::has(now, s as usize) {
+        if now.has(s as usize) {
             let on = put(out, write, here, Rule::EuNow.code());
             let to = env.bound(f.y, s);
             return formula(image, table, next, entries, side, write, f.b, to, out, on);

@@ -1,25 +1,25 @@
--- A walk over the members of a set, lowest first: `k = lowest(left)`, something with k, `left = rest(left)`, until `left` is empty.
--- Its measure is `ones left` (`walk-falls`). Two invariants: one for a walk that gathers the members that pass a test, which is any
+-- A walk over the members of a set, lowest first, as `Set::stages` goes: k is the lowest of what is left, something is done with k, and the
+-- others are left. `ones left` falls (`walk-falls`). Two invariants: one for a walk that gathers the members that pass a test, which is any
 -- function to 0 and 1, and one for a walk that shows a property of each member. Each law takes what the contracts of `is_empty`,
 -- `lowest`, `rest` and `with` say of the numbers before and after a turn (primed).
 -- Assumes nothing.
 use mathlib.Core.Path.{◌≡◌, sym, ap, ap₂, ◌∙◌, subst}
 use mathlib.Core.Logic.{◌⊎◌, inl, inr, ⊎_elim, ◌≢◌, ◌↔◌}
-use Prim.Native.Nat.{ℕ, ◌-◌, ◌^◌, ◌≤◌, ◌<◌, min, max}
+use Prim.Native.Nat.{ℕ, ◌^◌, ◌≤◌, ◌<◌, min, max}
 use native.Mathlib.Omega.{arith}
-use lib.Bits.{bit_and, bit_or}
-use lib.Count.{ones, count_trailing_zeros}
+use lib.Bits.{bit_or}
+use lib.Count.{ones}
 use Rattle.sets.specs.Member.{bit, Has, Empty}
-use Rattle.sets.specs.Number.{single, width}
+use Rattle.sets.specs.Number.{number, single, width}
+use Rattle.sets.specs.declared.Stages.{Stages}
+use Rattle.sets.specs.Walk.{Turn}
 use Rattle.sets.proofs.LawsBit.{bit-zero, bit-or}
 use Rattle.sets.proofs.LawsMember.{same?, bit-single-same, bit-single-other, empty-zero, not-has}
 use Rattle.sets.proofs.LawsLowest.{lowest-lt, lowest-has, rest-lowest, rest-other, rest-small, ones-rest}
 
--- k is the lowest of what is left, and left' the others
-pub record Turn (left k left' : ℕ) : Type 0 where
-  pub some : Empty left → ⊥
-  pub lowest : k ≡ count_trailing_zeros width left
-  pub others : left' ≡ bit_and left (left - 1)
+-- when a walk begins all of the set is left
+pub walk-begins : {first items : Stages} {s : ℕ} → first ≡ items → number items.left ≡ s → number first.left ≡ s
+walk-begins e f = ap (λ i. number i.left) e ∙ f
 
 some-not-zero : (s : ℕ) → (Empty s → ⊥) → s ≢ 0
 some-not-zero s f e = f ((empty-zero s).1 e)
@@ -56,8 +56,11 @@ pub record Gathered (s : ℕ) (t : ℕ → ℕ) (left got : ℕ) : Type 0 where
   pub each : (j : ℕ) → max (bit got j) (min (bit left j) (t j)) ≡ min (bit s j) (t j)
 
 -- at the start nothing is gathered and all is left
-pub gather-start : (s : ℕ) (t : ℕ → ℕ) (got : ℕ) → s < 2 ^ width → got ≡ 0 → Gathered s t s got
-gather-start s t got h e = record { small = h; each = λ j. omega (arith, ap (λ (x : ℕ). bit x j) e, bit-zero j) }
+pub gather-start : (s : ℕ) (t : ℕ → ℕ) (got : ℕ) {left : ℕ} → s < 2 ^ width → left ≡ s → got ≡ 0 → Gathered s t left got
+gather-start s t got h f e = record {
+  small = omega (arith, h, f);
+  each = λ j. omega (arith, ap (λ (x : ℕ). bit x j) f, ap (λ (x : ℕ). bit x j) e, bit-zero j);
+}
 
 module _ {s : ℕ} {t : ℕ → ℕ} {left got k left' : ℕ} (g : Gathered s t left got) (turn : Turn left k left') where
   -- a turn changes what is gathered, and what is left, at its own stage only
@@ -100,8 +103,8 @@ pub record Shown (s : ℕ) (P : ℕ → Type 0) (left : ℕ) : Type 0 where
   pub each : (j : ℕ) → Has s j → Has left j ⊎ P j
 
 -- at the start every member is left
-pub show-start : (s : ℕ) (P : ℕ → Type 0) → s < 2 ^ width → Shown s P s
-show-start s P h = record { small = h; each = λ j m. inl m }
+pub show-start : (s : ℕ) (P : ℕ → Type 0) {left : ℕ} → s < 2 ^ width → left ≡ s → Shown s P left
+show-start s P h f = record { small = omega (arith, h, f); each = λ j m. inl (ap (λ (x : ℕ). bit x j) f ∙ m) }
 
 -- the stage of a turn has it
 pub show-turn : {s : ℕ} {P : ℕ → Type 0} {left k left' : ℕ} → Shown s P left → Turn left k left' → P k → Shown s P left'

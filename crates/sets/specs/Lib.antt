@@ -3,3 +3,4 @@ pub mod Member
 pub mod Number
 pub mod Row
 pub mod Stored
+pub mod Walk

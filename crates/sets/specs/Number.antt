@@ -14,6 +14,10 @@ size = 8
 unfoldable pub number : Set → ℕ
 number s = s.bits
 
+-- The set with no stage.
+abbrev pub none : Set
+none = record { bits = 0 }
+
 -- The set of stage k alone, where there is room for k.
 unfoldable pub single : ℕ → ℕ
 single k = pick (ltb k width) (2 ^ k) 0

@@ -13,6 +13,8 @@ ghost use Rattle.std.specs.Int.Bits.{bit_and, bit_or};
 ghost use Rattle.std.specs.Int.Count.{ones, count_trailing_zeros};
 ghost use Rattle.model.specs.Decides.{Decides};
 ghost use Rattle.sets.specs.Member.{Has, Within, Empty};
+ghost use Rattle.std.specs.Iterator.{at_most};
+ghost use Rattle.sets.specs.Walk.{Next};
 ghost use Rattle.sets.specs.Number.{number, single, Held, stored, width, size};
 
 // How many stages a set has room for, and how many bytes a stored one takes.
@@ -20,16 +22,180 @@ pub const WIDTH: usize = 64;
 
 pub const BYTES: usize = 8;
 
-#[derive(Clone, Copy)]
+#[derive(Clone, Copy, PartialEq, Eq)]
 pub struct Set {
     bits: u64,
 }
 
-// The set with no stage.
-pub fn empty() -> Set
-    ensures { number result ≡ 0 }
-{
-    Set { bits: 0 }
+impl Set {
+    // The set with no stage.
+    pub fn empty() -> Set
+        ensures { number result ≡ 0 }
+    {
+        Set { bits: 0 }
+    }
+
+    // The stages below n; all that there is room for where n is the width or more.
+    pub fn below(n: usize) -> Set
+        ensures { number result ≡ 2 ^ (min n width) - 1 }
+    {
+        if n < WIDTH {
+            let next = power(n);
+            Set { bits: next - 1 }
+        } else {
+            Set {
+                bits: 0xffff_ffff_ffff_ffff,
+            }
+        }
+    }
+
+    // The set of stage k alone; empty where there is no room for k.
+    pub fn only(k: usize) -> Set
+        ensures { number result ≡ single k }
+    {
+        if k < WIDTH {
+            Set { bits: power(k) }
+        } else {
+            Set { bits: 0 }
+        }
+    }
+
+    // Whether stage k is in the set.
+    pub fn has(self, k: usize) -> bool
+        ensures { Decides result (Has (number self) k) }
+    {
+        k < WIDTH && (self.bits >> k) % 2 == 1
+    }
+
+    // The stages of either set.
+    pub fn union(self, other: Set) -> Set
+        ensures { number result ≡ bit_or (number self) (number other) }
+    {
+        Set {
+            bits: self.bits | other.bits,
+        }
+    }
+
+    // The stages of both sets.
+    pub fn common(self, other: Set) -> Set
+        ensures { number result ≡ bit_and (number self) (number other) }
+    {
+        Set {
+            bits: self.bits & other.bits,
+        }
+    }
+
+    // The stages of this set that are not in the other.
+    pub fn minus(self, other: Set) -> Set
+        ensures { number result ≡ number self - bit_and (number self) (number other) }
+    {
+        Set {
+            bits: self.bits - (self.bits & other.bits),
+        }
+    }
+
+    // The set with stage k besides; unchanged where there is no room for k.
+    pub fn with(self, k: usize) -> Set
+        ensures { number result ≡ bit_or (number self) (single k) }
+    {
+        self.union(Set::only(k))
+    }
+
+    // The set less stage k.
+    pub fn without(self, k: usize) -> Set
+        ensures { number result ≡ number self - bit_and (number self) (single k) }
+    {
+        self.minus(Set::only(k))
+    }
+
+    // Whether every stage of this set is in the other.
+    pub fn subset(self, other: Set) -> bool
+        ensures { Decides result (Within (number self) (number other)) }
+    {
+        self.bits & other.bits == self.bits
+    }
+
+    // Whether the set has no stage.
+    pub fn is_empty(self) -> bool
+        ensures { Decides result (Empty (number self)) }
+    {
+        self.bits == 0
+    }
+
+    // How many stages the set has.
+    pub fn count(self) -> usize
+        ensures { result ≡ ones (number self) }
+    {
+        self.bits.count_ones() as usize
+    }
+
+    // The lowest stage of the set; the width where it has none.
+    pub fn lowest(self) -> usize
+        ensures { result ≡ count_trailing_zeros width (number self) }
+    {
+        self.bits.trailing_zeros() as usize
+    }
+
+    // The set less its lowest stage; empty where it has none.
+    pub fn rest(self) -> Set
+        ensures { number result ≡ bit_and (number self) (number self - 1) }
+    {
+        if self.bits == 0 {
+            self
+        } else {
+            Set {
+                bits: self.bits & (self.bits - 1),
+            }
+        }
+    }
+
+    // The stages of the set one by one, the lowest first.
+    pub fn stages(self) -> Stages
+        ensures { number result.left ≡ number self }
+    {
+        Stages { left: self }
+    }
+
+    // Set i of those stored one after another in the bytes from a place on; empty where its bytes are not all there.
+    pub fn read_nth(bytes: &[u8], start: usize, i: usize) -> Set
+        ensures { number result ≡ stored bytes.now (start + size * i) }
+    {
+        if bytes.len() < start {
+            return Set::empty();
+        }
+        if (bytes.len() - start) / BYTES <= i {
+            return Set::empty();
+        }
+        let at = start + BYTES * i;
+        let high = four(bytes, at);
+        let low = four(bytes, at + 4);
+        Set {
+            bits: high * 4294967296 + low,
+        }
+    }
+}
+
+// The stages of a set that are still to come, the lowest first.
+#[derive(Clone, Copy)]
+pub struct Stages {
+    left: Set,
+}
+
+impl Iterator for Stages {
+    type Item = usize;
+
+    ghost next_gives = { λ s r t. Next (number s.left) r (number t.left) };
+
+    ghost remaining = { λ s. at_most (ones (number s.left)) };
+
+    fn next(&mut self) -> Option<usize> {
+        if self.left.is_empty() {
+            return None;
+        }
+        let k = self.left.lowest();
+        self.left = self.left.rest();
+        Some(k)
+    }
 }
 
 // The number of stage k alone.
@@ -38,124 +204,6 @@ fn power(k: usize) -> u64
     ensures { result ≡ 2 ^ k }
 {
     1u64 << k
-}
-
-// The stages below n; all that there is room for where n is the width or more.
-pub fn below(n: usize) -> Set
-    ensures { number result ≡ 2 ^ (min n width) - 1 }
-{
-    if n < WIDTH {
-        let next = power(n);
-        Set { bits: next - 1 }
-    } else {
-        Set {
-            bits: 0xffff_ffff_ffff_ffff,
-        }
-    }
-}
-
-// The set of stage k alone; empty where there is no room for k.
-pub fn only(k: usize) -> Set
-    ensures { number result ≡ single k }
-{
-    if k < WIDTH {
-        Set { bits: power(k) }
-    } else {
-        Set { bits: 0 }
-    }
-}
-
-// Whether stage k is in the set.
-pub fn has(s: Set, k: usize) -> bool
-    ensures { Decides result (Has (number s) k) }
-{
-    if k < WIDTH {
-        (s.bits >> k) % 2 == 1
-    } else {
-        false
-    }
-}
-
-// The stages of either.
-pub fn union(a: Set, b: Set) -> Set
-    ensures { number result ≡ bit_or (number a) (number b) }
-{
-    Set {
-        bits: a.bits | b.bits,
-    }
-}
-
-// The stages of both.
-pub fn common(a: Set, b: Set) -> Set
-    ensures { number result ≡ bit_and (number a) (number b) }
-{
-    Set {
-        bits: a.bits & b.bits,
-    }
-}
-
-// The stages of a that are not in b.
-pub fn minus(a: Set, b: Set) -> Set
-    ensures { number result ≡ number a - bit_and (number a) (number b) }
-{
-    Set {
-        bits: a.bits - (a.bits & b.bits),
-    }
-}
-
-// The set with stage k besides; unchanged where there is no room for k.
-pub fn with(s: Set, k: usize) -> Set
-    ensures { number result ≡ bit_or (number s) (single k) }
-{
-    union(s, only(k))
-}
-
-// The set less stage k.
-pub fn without(s: Set, k: usize) -> Set
-    ensures { number result ≡ number s - bit_and (number s) (single k) }
-{
-    minus(s, only(k))
-}
-
-// Whether every stage of a is in b.
-pub fn subset(a: Set, b: Set) -> bool
-    ensures { Decides result (Within (number a) (number b)) }
-{
-    a.bits & b.bits == a.bits
-}
-
-// Whether the set has no stage.
-pub fn is_empty(s: Set) -> bool
-    ensures { Decides result (Empty (number s)) }
-{
-    s.bits == 0
-}
-
-// How many stages the set has.
-pub fn count(s: Set) -> usize
-    ensures { result ≡ ones (number s) }
-{
-    u64::count_ones(s.bits) as usize
-}
-
-// The lowest stage of the set; the width where it has none.
-pub fn lowest(s: Set) -> usize
-    ensures { result ≡ count_trailing_zeros width (number s) }
-{
-    u64::trailing_zeros(s.bits) as usize
-}
-
-// The set less its lowest stage; empty where it has none.
-pub fn rest(s: Set) -> Set
-    ensures { number result ≡ bit_and (number s) (number s - 1) }
-{
-    if s.bits == 0 {
-        s
-    } else {
-        Set {
-            bits: s.bits & (s.bits - 1),
-        }
-    }
 }
 
 // The byte at a place, and the number that stands in four, big-endian. Two such halves compile to one load of eight bytes.
@@ -174,22 +222,4 @@ fn four(bytes: &[u8], at: usize) -> u64
         + byte(bytes, at + 1) * 65536
         + byte(bytes, at + 2) * 256
         + byte(bytes, at + 3)
-}
-
-// Set i of those stored one after another in the bytes from a place on; empty where its bytes are not all there.
-pub fn read_nth(bytes: &[u8], start: usize, i: usize) -> Set
-    ensures { number result ≡ stored bytes.now (start + size * i) }
-{
-    if bytes.len() < start {
-        return empty();
-    }
-    if (bytes.len() - start) / BYTES <= i {
-        return empty();
-    }
-    let at = start + BYTES * i;
-    let high = four(bytes, at);
-    let low = four(bytes, at + 4);
-    Set {
-        bits: high * 4294967296 + low,
-    }
 }

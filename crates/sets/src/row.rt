@@ -1,30 +1,23 @@
-// A row of sets in words, so that the successor sets of a graph are decoded once and lent on as a plain slice. How many words a set takes
-// and where they stand is known here and nowhere above. Both functions are total: past the end there are empty sets only.
+// A row of sets, so that the successor sets of a graph are decoded once and lent on. Both functions are total: past the end there are empty
+// sets only.
 ghost use Rattle.std.specs.Prelude.{◌≡◌};
 ghost use Rattle.sets.specs.Number.{number};
 ghost use Rattle.sets.specs.Row.{held, Put};
 
 use crate::Set;
 
-// How many words of a row a set takes.
-pub const WORDS: usize = 1;
-
 // Set i of the row; empty past the end.
-pub fn load(words: &[u64], i: usize) -> Set
-    ensures { number result ≡ held words.now i }
+pub fn load(row: &[Set], i: usize) -> Set
+    ensures { number result ≡ held row.now i }
 {
-    if i < words.len() {
-        Set { bits: words[i] }
-    } else {
-        Set { bits: 0 }
-    }
+    if i < row.len() { row[i] } else { Set::empty() }
 }
 
 // Set i of the row becomes s; past the end nothing changes.
-pub fn store(words: &mut [u64], i: usize, s: Set)
-    ensures { Put words.old i (number s) words.new }
+pub fn store(row: &mut [Set], i: usize, s: Set)
+    ensures { Put row.old i (number s) row.new }
 {
-    if i < words.len() {
-        words[i] = s.bits;
+    if i < row.len() {
+        row[i] = s;
     }
 }

@@ -14,6 +14,7 @@ use mathlib.Core.Bool.{Bool, true, false}
 use mathlib.Core.List.{List, [], ◌∷◌}
 use lib.Dec.{T, eqb}
 use lib.ListN.{length}
+use Rattle.sets.specs.declared.Set.{Set}
 use Rattle.model.specs.Graph.{Readable}
 use Rattle.model.specs.Formula.{pick, dual, Below}
 use Rattle.logic.specs.Meaning.{Holds}
@@ -21,7 +22,6 @@ use Rattle.logic.specs.Test.{test, Stand}
 use Rattle.logic.proofs.TestMeaning.{test-holds}
 use Rattle.logic.proofs.Duality.{dual-holds}
 use Rattle.sets.specs.Number.{width}
-use Rattle.sets.specs.Row.{words}
 use Rattle.modal.specs.Row.{Row}
 use Rattle.format.specs.Refusal.{Clear}
 use Rattle.format.specs.Image.{stages_of, graph_of}
@@ -62,7 +62,7 @@ module _ {image table : List ℕ} {goal start : ℕ} (clear : Clear (question_co
   asked-stands = started-stands (start-below image table goal start clear)
 
   -- All that an evaluation goes by, with a row that holds the graph.
-  pub question-ready : {next : List ℕ} {n : ℕ} → Row next n (graph_of image) → Ready image table next n goal (start_env start)
+  pub question-ready : {next : List Set} {n : ℕ} → Row next n (graph_of image) → Ready image table next n goal (start_env start)
   question-ready {next} {n} row = record {
     row = row;
     ruled = ruled image table (of-setup image table goal start clear);
@@ -99,7 +99,7 @@ module _ {image table : List ℕ} {goal start : ℕ} {q : Question} (read : Ques
   own-start = ap (λ (k : Question). k.start) read.is
 
   -- Its row, decoded with as many stages as it says, holds the graph.
-  pub question-row : {before row : List ℕ} → width * words ≤ length before → Decoded image q.shape.image.stages before row
+  pub question-row : {before row : List Set} → width ≤ length before → Decoded image q.shape.image.stages before row
       → Row row q.shape.image.stages (graph_of image)
   question-row long d =
       let stages : q.shape.image.stages ≡ stages_of image = ap (λ (k : Question). k.shape.image.stages) read.is in

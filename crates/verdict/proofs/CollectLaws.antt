@@ -19,6 +19,7 @@ use mathlib.Core.Logic.{◌⊎◌, inl, inr, ⊎_elim}
 use lib.Bits.{bit_and, bit_or}
 use lib.Dec.{T}
 use borrow.Author.Tests.{eq-eqb, ne_eqb}
+use Rattle.sets.specs.declared.Set.{Set}
 use Rattle.model.specs.Decides.{Decides}
 use Rattle.model.specs.Graph.{Graph}
 use Rattle.logic.specs.Test.{Stages}
@@ -36,7 +37,7 @@ pub collects-as : {n r : ℕ} {op op' : Stages} → ((s : ℕ) → s < n → op 
 collects-as same c = record { inside = c.inside; right = λ s h. c.right s h ∙ same s h }
 
 -- So does a set that was worked out for the graph that a row holds.
-pub collects-by : {next : List ℕ} {n r : ℕ} {G : Graph} {op : Graph → Stages} → Row next n G → Computes next n op r → Collects n (op G) r
+pub collects-by : {next : List Set} {n r : ℕ} {G : Graph} {op : Graph → Stages} → Row next n G → Computes next n op r → Collects n (op G) r
 collects-by {G = G} R c = record { inside = c.inside; right = c.right G R }
 
 -- Every stage below n, and none.
@@ -50,7 +51,7 @@ collects-none {n} {r} e = record { inside = λ k h. absurd (lacks k h); right = 
     lacks k h = subst T (member-none e k) ((has-test r k).1 h)
 
 -- No stage is worked out for a test that none passes.
-pub computes_none : {next : List ℕ} {n r : ℕ} → r ≡ 0 → Computes next n (λ G s. false) r
+pub computes_none : {next : List Set} {n r : ℕ} → r ≡ 0 → Computes next n (λ G s. false) r
 computes_none {n = n} e = let c = collects-none {n = n} e in record { inside = c.inside; right = λ G R s h. c.right s h }
 
 module _ {n : ℕ} {p q : Stages} (a b : ℕ) {r : ℕ} where

@@ -15,6 +15,7 @@ use native.Mathlib.Omega.{arith}
 use mathlib.Core.Path.{◌≡◌, sym, ap, ◌∙◌, subst}
 use mathlib.Core.Bool.{Bool, true, false}
 use mathlib.Core.List.{List}
+use Rattle.sets.specs.declared.Set.{Set}
 use Rattle.model.specs.Decides.{Decides}
 use Rattle.model.specs.Formula.{bind, value, atom}
 use Rattle.model.specs.Formula.{Env as Environment}
@@ -56,7 +57,7 @@ term-ruled S.Unary image e r some rule = rule.t
 term-ruled S.Binary image e r some rule = rule.t
 term-ruled S.NoSort image e r some rule = absurd rule
 
-module _ {image table next : List ℕ} {n e : ℕ} {env : Env} (ready : Ready image table next n e env) where
+module _ {image table : List ℕ} {next : List Set} {n e : ℕ} {env : Env} (ready : Ready image table next n e env) where
   -- ---- what an evaluation goes by
 
   -- At a lower entry,

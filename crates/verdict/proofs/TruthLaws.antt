@@ -8,6 +8,7 @@ use mathlib.Core.Path.{◌≡◌, refl, sym, ap, ap₂, ◌∙◌, subst}
 use mathlib.Core.Bool.{Bool, true, false, beq}
 use mathlib.Core.List.{List}
 use lib.Dec.{T}
+use Rattle.sets.specs.declared.Set.{Set}
 use Rattle.format.specs.Image.{graph_of}
 use Rattle.format.specs.Table.{kind_of}
 use Rattle.format.specs.declared.record.Record.{Record}
@@ -41,7 +42,7 @@ settled true false b h = refl
 settled false true b h = refl
 settled false false b h = absurd (subst T h tt)
 
-module _ {image table next : List ℕ} {n e : ℕ} {env : Env} (ready : Ready image table next n e env) {r : Record} where
+module _ {image table : List ℕ} {next : List Set} {n e : ℕ} {env : Env} (ready : Ready image table next n e env) {r : Record} where
   pub constant-truth : {first : Bool} → Row table e r S.Constant → first ≡ is_first (kind_of r.kind) → first ≡ truth_of image table e env
   constant-truth row f = f ∙ sym (test-row image row (ready-rule ready) (graph_of image) (env_of env))
 

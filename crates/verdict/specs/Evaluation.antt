@@ -1,4 +1,5 @@
 -- What the evaluation of an entry gives, in the words of the crate `logic`'s executable test.
+use Rattle.sets.specs.declared.Set.{Set}
 use Rattle.std.specs.Prelude.{ℕ, ◌+◌, ◌<◌, ◌≡◌, Bool, List}
 use Rattle.model.specs.Formula.{bind, value, atom}
 use Rattle.model.specs.Formula.{Env as Environment}
@@ -19,7 +20,7 @@ pub record Collects (n : ℕ) (op : Stages) (r : ℕ) : Type 0 where
 
 -- What an evaluation goes by: the row holds the successors of the image's n stages, every record keeps its rules, the entry is one of the
 -- table's, and every variable stands at a stage. All of it holds of a question that is not refused.
-pub record Ready (image table next : List ℕ) (n e : ℕ) (env : Env) : Type 0 where
+pub record Ready (image table : List ℕ) (next : List Set) (n e : ℕ) (env : Env) : Type 0 where
   pub row : Row next n (graph_of image)
   pub ruled : (i : ℕ) → i < entries_of table → Ruled image i (record_at table i)
   pub entry : e < entries_of table

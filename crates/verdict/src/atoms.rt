@@ -16,9 +16,9 @@ pub(crate) fn where_in(n: usize, set: Set, t: u8, env: Env, x: u8) -> Set
     ensures { Collects n (term_in (number set) t env x) (number result) }
 {
     if env::names(t, x) {
-        sets::common(set, sets::below(n))
+        set.common(Set::below(n))
     } else {
-        kinds::all_or_none(n, sets::has(set, env::stage_of(t, env) as usize))
+        kinds::all_or_none(n, set.has(env::stage_of(t, env) as usize))
     }
 }
 
@@ -27,11 +27,11 @@ fn where_column(image: &[u8], n: usize, first: usize, b: u8, env: Env, x: u8) ->
     requires { (n ≤ width) × (first < 65536) × (x < 4) }
     ensures { Collects n (column image.now first b env x) (number result) }
 {
-    let mut found = sets::empty();
+    let mut found = Set::empty();
     for s in 0..n {
         let c = env::stage_of(b, env.bound(x, s as u8)) as usize;
-        if sets::has(image::set(image, first + s), c) {
-            found = sets::with(found, s);
+        if image::set(image, first + s).has(c) {
+            found = found.with(s);
         }
     }
     found
@@ -64,6 +64,6 @@ pub(crate) fn where_literal(image: &[u8], n: usize, r: Record, plain: bool, env:
     if plain {
         s
     } else {
-        sets::minus(sets::below(n), s)
+        Set::below(n).minus(s)
     }
 }

@@ -16,7 +16,7 @@ fn free_under(image: &[u8], table: &[u8], o: u8, y: u8, x: u8) -> bool
     if x == y {
         false
     } else {
-        sets::has(variables::free(image, table, o), x as usize)
+        variables::free(image, table, o).has(x as usize)
     }
 }
 

@@ -16,7 +16,7 @@ use sets::Set;
 pub fn where_holds(
     image: &[u8],
     table: &[u8],
-    next: &[u64],
+    next: &[Set],
     n: usize,
     e: u8,
     env: Env,
@@ -42,13 +42,13 @@ pub fn where_holds(
         }
         Sort::Unary => where_modal(image, table, next, n, e, env, x),
         Sort::Binary => where_modal(image, table, next, n, e, env, x),
-        Sort::NoSort => sets::empty(),
+        Sort::NoSort => Set::empty(),
     }
 }
 
 // The same of a modality. Where its operands do not depend on x, its set is worked out once.
 #[cycle(modal_set_where_each_where_holds_where_modal)]
-fn where_modal(image: &[u8], table: &[u8], next: &[u64], n: usize, e: u8, env: Env, x: u8) -> Set
+fn where_modal(image: &[u8], table: &[u8], next: &[Set], n: usize, e: u8, env: Env, x: u8) -> Set
     requires { Ready image.now table.now next.now n e env × (x < 4) }
     ensures { Collects n (modal_at image.now table.now e env x) (number result) }
 {
@@ -62,17 +62,17 @@ fn where_modal(image: &[u8], table: &[u8], next: &[u64], n: usize, e: u8, env: E
 
 // The same, worked out for each stage of x. The modality's term is read outside its binding: in the environment that it is itself in.
 #[cycle(modal_set_where_each_where_holds_where_modal)]
-fn where_each(image: &[u8], table: &[u8], next: &[u64], n: usize, e: u8, env: Env, x: u8) -> Set
+fn where_each(image: &[u8], table: &[u8], next: &[Set], n: usize, e: u8, env: Env, x: u8) -> Set
     requires { Ready image.now table.now next.now n e env × (x < 4) }
     ensures { Collects n (modal_at image.now table.now e env x) (number result) }
 {
     let r = record::entry(table, e as usize);
-    let mut found = sets::empty();
+    let mut found = Set::empty();
     for s in 0..n {
         let here = env.bound(x, s as u8);
         let from = modal_set(image, table, next, n, e, here);
-        if sets::has(from, env::stage_of(r.t, here) as usize) {
-            found = sets::with(found, s);
+        if from.has(env::stage_of(r.t, here) as usize) {
+            found = found.with(s);
         }
     }
     found
@@ -80,13 +80,13 @@ fn where_each(image: &[u8], table: &[u8], next: &[u64], n: usize, e: u8, env: En
 
 // The stages below n from which a modality holds, whatever its term; none where the entry is no modality. x is bound in a only, y in b only.
 #[cycle(modal_set_where_each_where_holds_where_modal)]
-pub(crate) fn modal_set(image: &[u8], table: &[u8], next: &[u64], n: usize, e: u8, env: Env) -> Set
+pub(crate) fn modal_set(image: &[u8], table: &[u8], next: &[Set], n: usize, e: u8, env: Env) -> Set
     requires { Ready image.now table.now next.now n e env }
     ensures { Collects n (held_from image.now table.now e env) (number result) }
 {
     let r = record::entry(table, e as usize);
     let kind = record::kind_of(r.kind);
-    let none = sets::empty();
+    let none = Set::empty();
     match record::sort_of(kind) {
         Sort::Unary => {
             let a = where_holds(image, table, next, n, r.a, env, r.x);

@@ -34,7 +34,7 @@ pub(crate) fn all_or_none(n: usize, all: bool) -> Set
     requires { n ≤ width }
     ensures { Collects n (always all) (number result) }
 {
-    if all { sets::below(n) } else { sets::empty() }
+    if all { Set::below(n) } else { Set::empty() }
 }
 
 // Whether the first operand's stages settle "and" or "or" at every stage below n: it holds at none of them, or at all.
@@ -43,9 +43,9 @@ pub(crate) fn settled(n: usize, first: bool, a: Set) -> bool
     ensures { Settled result n first (number a) }
 {
     if first {
-        sets::is_empty(a)
+        a.is_empty()
     } else {
-        sets::subset(sets::below(n), a)
+        Set::below(n).subset(a)
     }
 }
 
@@ -54,17 +54,17 @@ pub(crate) fn joined(first: bool, a: Set, b: Set) -> Set
     ensures { number result ≡ joined_number first (number a) (number b) }
 {
     if first {
-        sets::common(a, b)
+        a.common(b)
     } else {
-        sets::union(a, b)
+        a.union(b)
     }
 }
 
 // The stages below n from which a modality holds, from the stages at which its operands hold; none where the kind is no modality.
-pub(crate) fn modal_of(next: &[u64], n: usize, kind: Kind, a: Set, b: Set) -> Set
+pub(crate) fn modal_of(next: &[Set], n: usize, kind: Kind, a: Set, b: Set) -> Set
     ensures { Computes next.now n (modal_on kind (number a) (number b)) (number result) }
 {
-    let none = sets::empty();
+    let none = Set::empty();
     match kind {
         Kind::AX => modal::each_next(next, n, a),
         Kind::EX => modal::some_next(next, n, a),

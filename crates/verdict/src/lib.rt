@@ -31,6 +31,7 @@ use format::question::Question;
 use format::{Refusal, question};
 use hand::env::Env;
 use hand::setup;
+use sets::Set;
 
 // Whether the goal holds at the start, or the first of the refusals 1 to 13.
 pub fn verdict(image: &[u8], table: &[u8], goal: u64, start: u64) -> Result<Verdict, Refusal>
@@ -53,7 +54,7 @@ fn goal_holds(image: &[u8], table: &[u8], q: Question) -> bool
     let shape = q.shape;
     let inner = shape.image;
     let n = inner.stages;
-    let mut next = [0u64; setup::NEXT];
+    let mut next = [Set::empty(); setup::NEXT];
     setup::decode(image, n, &mut next);
     let env = Env {
         slots: [q.start, 0, 0, 0],

@@ -7,9 +7,10 @@ use format::record;
 use format::record::Sort;
 use hand::env;
 use hand::env::Env;
+use sets::Set;
 
 // Whether an entry's formula holds. Where the first operand of "and" or "or" settles it, the second is not looked at.
-pub fn holds(image: &[u8], table: &[u8], next: &[u64], n: usize, e: u8, env: Env) -> bool
+pub fn holds(image: &[u8], table: &[u8], next: &[Set], n: usize, e: u8, env: Env) -> bool
     requires { Ready image.now table.now next.now n e env }
     ensures { result ≡ truth_of image.now table.now e env }
 {
@@ -34,11 +35,11 @@ pub fn holds(image: &[u8], table: &[u8], next: &[u64], n: usize, e: u8, env: Env
 }
 
 // Whether a modality holds at its term.
-fn holds_from(image: &[u8], table: &[u8], next: &[u64], n: usize, e: u8, env: Env) -> bool
+fn holds_from(image: &[u8], table: &[u8], next: &[Set], n: usize, e: u8, env: Env) -> bool
     requires { Ready image.now table.now next.now n e env }
     ensures { result ≡ modal_over image.now table.now e env }
 {
     let r = record::entry(table, e as usize);
     let from = evaluation::modal_set(image, table, next, n, e, env);
-    sets::has(from, env::stage_of(r.t, env) as usize)
+    from.has(env::stage_of(r.t, env) as usize)
 }

@@ -15,12 +15,13 @@ use mathlib.Core.Logic.{inl}
 use lib.Dec.{T}
 use lib.ListN.{length, drop}
 use lib.Seq.{sets-eq}
+use Rattle.sets.specs.declared.Set.{Set}
+use Rattle.hand.specs.declared.setup.Entry.{Entry}
 use Rattle.model.specs.Formula.{Env}
 use Rattle.logic.specs.Test.{test}
 use Rattle.format.specs.Refusal.{Given, Clear}
 use Rattle.logic.proofs.Duality.{test-dual}
 use Rattle.sets.specs.Number.{width}
-use Rattle.sets.specs.Row.{words}
 use Rattle.sets.proofs.LawsRow.{room-enough}
 use Rattle.modal.specs.Row.{Row}
 use Rattle.format.specs.Image.{stages_of, graph_of}
@@ -34,7 +35,7 @@ use Rattle.format.proofs.RefusalLaws.{given-first, given-later, clear_both}
 use Rattle.format.proofs.ReadableLaws
 use Rattle.format.proofs.ReadableLaws.{of-setup, of_image, of-table, sizes}
 use Rattle.hand.specs.Environment.{env_of}
-use Rattle.hand.specs.Setup.{Decoded, Prepared, entry_bytes}
+use Rattle.hand.specs.Setup.{Decoded, Prepared, most_entries}
 use Rattle.hand.specs.declared.env.Env.{Env as Slots}
 use Rattle.hand.proofs.HandLaws.{successors-in}
 use Rattle.hand.proofs.EnvironmentLaws.{start-env}
@@ -105,11 +106,11 @@ side-holds image table e env true t = subst T (sym t) tt
 side-holds image table e env false t = subst T (sym (test-dual (graph_of image) (tree_of image table e) (env_of env) ∙ ap not t)) tt
 
 -- A question that was read, its row decoded and its entries prepared.
-pub question-holding : {image table next entries before blank : List ℕ} {q : Question} {side : ℕ} → QuestionRead image table q.goal q.start q
-    → width * words ≤ length before → Decoded image q.shape.image.stages before next → length blank ≡ entry_bytes
+pub question-holding : {image table : List ℕ} {next before : List Set} {entries blank : List Entry} {q : Question} {side : ℕ} → QuestionRead image table q.goal q.start q
+    → width ≤ length before → Decoded image q.shape.image.stages before next → length blank ≡ most_entries
     → Prepared image table q.shape.entries side blank entries → side ≡ side_by (truth_of image table q.goal (start_env q.start))
     → Holding image table next entries side q.goal (start_env q.start)
-question-holding {image} {table} {next} {entries} {before} {blank} {q} {side} read long d wide p side_is =
+question-holding {image} {table} {next} {before} {entries} {blank} {q} {side} read long d wide p side_is =
     let clear = read.clear in
     let of = of-setup image table q.goal q.start clear in
     let few = (sizes image (of_image image table of)).stages in

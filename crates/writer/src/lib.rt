@@ -17,6 +17,8 @@ use format::question::Question;
 use format::{Refusal, question};
 use hand::env::Env;
 use hand::setup;
+use hand::setup::Entry;
+use sets::Set;
 use verdict::truth;
 
 // Writes the certificate of a goal at a start to the buffer's front, and answers its side and length; or gives the first of the refusals 1 to 13, then
@@ -39,13 +41,13 @@ fn answered(image: &[u8], table: &[u8], q: Question, buffer: &mut [u8]) -> Answe
     let shape = q.shape;
     let inner = shape.image;
     let n = inner.stages;
-    let mut next = [0u64; setup::NEXT];
+    let mut next = [Set::empty(); setup::NEXT];
     setup::decode(image, n, &mut next);
     let env = Env {
         slots: [q.start, 0, 0, 0],
     };
     let side = side_of(image, table, &next, n, q.goal, env);
-    let mut entries = [0u8; setup::ENTRIES];
+    let mut entries = [Entry::default(); setup::ENTRIES];
     setup::prepare(image, table, shape.entries, side, &mut entries);
     let length = pen::whole(
         image, table, &next, &entries, side, false, q.goal, q.start, env, buffer,
@@ -63,7 +65,7 @@ fn answered(image: &[u8], table: &[u8], q: Question, buffer: &mut [u8]) -> Answe
 }
 
 // The side that holds: 0 where the goal does, else 1.
-fn side_of(image: &[u8], table: &[u8], next: &[u64], n: usize, goal: u8, env: Env) -> u8
+fn side_of(image: &[u8], table: &[u8], next: &[Set], n: usize, goal: u8, env: Env) -> u8
     requires { Ready image.now table.now next.now n goal env }
     ensures { result ≡ side_by (truth_of image.now table.now goal env) }
 {

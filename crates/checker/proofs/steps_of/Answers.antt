@@ -14,7 +14,7 @@ formula-end-requires c =
     let count = ap (λ (q : Question). q.shape.image.sets) read.is in
     let entries = ap (λ (q : Question). q.shape.entries) read.is in
     let lent = setup-lent (of-setup c.args.image.now c.args.table.now c.args.q.goal c.args.q.start read.clear) count entries
-    c.decode.ensures c.prepare.ensures in
+    _ c.empty-all.ensures c.decode.ensures _ c.prepare.ensures in
     let hand = goal-hand read.clear lent in
     handed hand
 
@@ -24,7 +24,7 @@ returns-then-end-size c =
     let count = ap (λ (q : Question). q.shape.image.sets) read.is in
     let entries = ap (λ (q : Question). q.shape.entries) read.is in
     let lent = setup-lent (of-setup c.args.image.now c.args.table.now c.args.q.goal c.args.q.start read.clear) count entries
-    c.decode.ensures c.prepare.ensures in
+    _ c.empty-all.ensures c.decode.ensures _ c.prepare.ensures in
     let hand = goal-hand read.clear lent in
     let is = reading-is c.args.image.now c.args.table.now c.args.certificate.now c.args.q.goal c.args.q.start c.byte-side.ensures
     (c.formula-end.ensures.is hand) (told_at _ (omega (arith, c.if-end-size.true))) in
@@ -36,7 +36,7 @@ returns-then-end-size-2 c =
     let count = ap (λ (q : Question). q.shape.image.sets) read.is in
     let entries = ap (λ (q : Question). q.shape.entries) read.is in
     let lent = setup-lent (of-setup c.args.image.now c.args.table.now c.args.q.goal c.args.q.start read.clear) count entries
-    c.decode.ensures c.prepare.ensures in
+    _ c.empty-all.ensures c.decode.ensures _ c.prepare.ensures in
     let hand = goal-hand read.clear lent in
     let is = reading-is c.args.image.now c.args.table.now c.args.certificate.now c.args.q.goal c.args.q.start c.byte-side.ensures
     (c.formula-end.ensures.is hand) (told_at _ (omega (arith, c.if-end-size-2.true))) in
@@ -48,7 +48,7 @@ returns-then-end-size-3 c =
     let count = ap (λ (q : Question). q.shape.image.sets) read.is in
     let entries = ap (λ (q : Question). q.shape.entries) read.is in
     let lent = setup-lent (of-setup c.args.image.now c.args.table.now c.args.q.goal c.args.q.start read.clear) count entries
-    c.decode.ensures c.prepare.ensures in
+    _ c.empty-all.ensures c.decode.ensures _ c.prepare.ensures in
     let hand = goal-hand read.clear lent in
     let is = reading-is c.args.image.now c.args.table.now c.args.certificate.now c.args.q.goal c.args.q.start c.byte-side.ensures
     (c.formula-end.ensures.is hand) (told-missing _ _ _ c.if-end-size-3.true) in
@@ -60,7 +60,7 @@ returns-then-end-size-4 c =
     let count = ap (λ (q : Question). q.shape.image.sets) read.is in
     let entries = ap (λ (q : Question). q.shape.entries) read.is in
     let lent = setup-lent (of-setup c.args.image.now c.args.table.now c.args.q.goal c.args.q.start read.clear) count entries
-    c.decode.ensures c.prepare.ensures in
+    _ c.empty-all.ensures c.decode.ensures _ c.prepare.ensures in
     let hand = goal-hand read.clear lent in
     let is = reading-is c.args.image.now c.args.table.now c.args.certificate.now c.args.q.goal c.args.q.start c.byte-side.ensures
     (c.formula-end.ensures.is hand) (told-two _ _ _ c.if-end-size-4.true) in
@@ -72,7 +72,7 @@ returns c =
     let count = ap (λ (q : Question). q.shape.image.sets) read.is in
     let entries = ap (λ (q : Question). q.shape.entries) read.is in
     let lent = setup-lent (of-setup c.args.image.now c.args.table.now c.args.q.goal c.args.q.start read.clear) count entries
-    c.decode.ensures c.prepare.ensures in
+    _ c.empty-all.ensures c.decode.ensures _ c.prepare.ensures in
     let hand = goal-hand read.clear lent in
     let is = reading-is c.args.image.now c.args.table.now c.args.certificate.now c.args.q.goal c.args.q.start c.byte-side.ensures
     (c.formula-end.ensures.is hand)

@@ -23,16 +23,10 @@ decreases-walk l = deep l.e (number l.met) + 2
 abbrev pub decreases-formula : goal.decreases-formula
 decreases-formula l = 200 * l.e + 131
 
-abbrev pub invariant-at_each-loop-env : goal.invariant-at_each-loop-env
-invariant-at_each-loop-env l =
-    AtEach l.sets l.entries l.steps l.e (env_of l.env) l.s l.at (number l.left) l.here l.fault
+abbrev pub invariant-at_each-loop-t : goal.invariant-at_each-loop-t
+invariant-at_each-loop-t l =
+    AtEach l.sets l.entries l.steps l.e (env_of l.env) l.s l.at (number l.t-iterator.left) l.here l.fault
 
-abbrev pub decreases-at_each-loop-env : goal.decreases-at_each-loop-env
-decreases-at_each-loop-env l = ones (number l.left)
-
-abbrev pub invariant-walk-loop-env : goal.invariant-walk-loop-env
-invariant-walk-loop-env l =
-    Going l.sets l.entries l.steps l.e (env_of l.env) l.s (number l.met) l.at (number l.left) l.here l.fault
-
-abbrev pub decreases-walk-loop-env : goal.decreases-walk-loop-env
-decreases-walk-loop-env l = ones (number l.left)
+abbrev pub invariant-walk-loop-t : goal.invariant-walk-loop-t
+invariant-walk-loop-t l =
+    Going l.sets l.entries l.steps l.e (env_of l.env) l.s (number l.fn.met) l.at (number l.t-iterator.left) l.here l.fault

@@ -1,16 +1,10 @@
 -- `hand::setup::made` meets its contract: an atom has its predicate's arity and first set.
-use native.Mathlib.Omega.{arith}
 use Rattle.hand.proofs.EntryLaws.{made-atom, made_other}
 use Rattle.hand.proofs.setup.made.Goals as goal
 
 pub returns-then-kind-eq1 : goal.returns-then-kind-eq1
 returns-then-kind-eq1 c =
-    record {
-      is = made-atom c.args.image.now c.args.side c.args.r c.number_on-kind.ensures c.if-kind-eq1.true c.byte.ensures
-          c.first_set.ensures.is;
-      small = c.first_set.ensures.small;
-    }
+    made-atom c.args.image.now c.args.side c.args.r c.number_on-kind.ensures c.if-kind-eq1.true c.byte.ensures c.first_set.ensures.is
 
 pub returns-else-kind-eq1 : goal.returns-else-kind-eq1
-returns-else-kind-eq1 c =
-    record { is = made_other c.args.image.now c.args.side c.args.r c.number_on-kind.ensures c.if-kind-eq1.false; small = omega arith }
+returns-else-kind-eq1 c = made_other c.args.image.now c.args.side c.args.r c.number_on-kind.ensures c.if-kind-eq1.false

@@ -5,11 +5,11 @@ use Rattle.rules.specs.declared.Rule.{Rule}
 use mathlib.Core.Path.{refl, sym, ap, subst, ◌∙◌}
 use lib.Dec.{T}
 use Rattle.sets.proofs.LawsFits.{number_lt}
-use Rattle.sets.proofs.LawsWalk.{walk-falls}
+use Rattle.sets.proofs.LawsWalk.{walk-begins}
 use Rattle.format.specs.Image.{graph_of}
 use Rattle.hand.specs.Environment.{env_of}
 use Rattle.pen.proofs.WroteLaws.{wrote-length, wrote-place, wrote-past, wrote-both, wrote-same, wrote_none}
-use Rattle.pen.proofs.EachLaws.{turn-of, each_start, each-stage, each-edge, each-end, each_next as turns-on}
+use Rattle.pen.proofs.EachLaws.{each_start, each-stage, each-edge, each-end, each_next as turns-on}
 use Rattle.logic.specs.Test.{af as af_test}
 use Rattle.pen.specs.Steps.{a_of, af_steps, b_of, InHand}
 use Rattle.pen.proofs.KindLaws.{fields, rule-of, af-from as af-holds, af-start, ar-from as ar-from-start, eg-from, eu-from, in_arm, true-steps, is-steps}
@@ -36,14 +36,14 @@ use Rattle.pen.proofs.steps.+af_af_from_af_step_ar_ar_from_ax_eg_eu_ex_formula_o
 pub af_from-returns-then-out-at : goal.af_from-returns-then-out-at
 af_from-returns-then-out-at t c = wrote-past _ _ _ _ c.if-out-at.true
 
-pub af_from-entry_at-f-requires : goal.af_from-entry_at-f-requires
-af_from-entry_at-f-requires t c =
+pub af_from-bounds-entries-e : goal.af_from-bounds-entries-e
+af_from-bounds-entries-e t c =
     omega (arith, c.requires.holding.entry, c.requires.holding.setup.most)
 
 pub af_from-where_on-stop-requires : goal.af_from-where_on-stop-requires
 af_from-where_on-stop-requires t c =
     let h = c.requires in
-    let f = fields h.holding c.entry_at-f.ensures in
+    let f = fields h.holding refl in
     let rule = rule-of h in
     (ready_of h.holding f.a rule.a c.byte-n.ensures, omega (arith, f.x, rule.x))
 
@@ -59,7 +59,7 @@ af_from-af-requires t c =
     let e = c.args.e in
     let env = c.args.env in
     let h = c.requires in
-    let f = fields h.holding c.entry_at-f.ensures in
+    let f = fields h.holding refl in
     let rule = rule-of h in
     let s-is = start_is h.holding f c.stage_of.ensures in
     let below = start-below h.holding rule.t in (
@@ -78,7 +78,7 @@ af_from-af-requires t c =
 pub af_from-returns : goal.af_from-returns
 af_from-returns t c =
     let h = c.requires in
-    let f = fields h.holding c.entry_at-f.ensures in
+    let f = fields h.holding refl in
     let s-is = start_is h.holding f c.stage_of.ensures in
     wrote-same (ap (af_steps c.args.image.now c.args.table.now c.args.side c.args.e (env_of c.args.env)) s-is ∙ af-start h)
     c.af.ensures.0
@@ -123,8 +123,8 @@ pub af-returns-else-end-out : goal.af-returns-else-end-out
 af-returns-else-end-out t c =
     c.af_step-end.ensures
 
-pub af_step-entry_at-f-requires : goal.af_step-entry_at-f-requires
-af_step-entry_at-f-requires t c =
+pub af_step-bounds-entries-e : goal.af_step-bounds-entries-e
+af_step-bounds-entries-e t c =
     omega (arith, c.requires.0.hand.holding.entry, c.requires.0.hand.holding.setup.most)
 
 pub af_step-formula-requires : goal.af_step-formula-requires
@@ -132,7 +132,7 @@ af_step-formula-requires t c =
     let a = c.requires.0 in
     let h = a.hand in
     let rule = rule-of h in
-    let f = fields h.holding c.entry_at-f.ensures in
+    let f = fields h.holding refl in
     let now = stop-has a.stops a.below c.has.ensures c.if-has.true in (
       omega (arith, c.decreases, f.a, rule.a),
       under h.holding f.a rule.a f.x (omega (arith, rule.x)) a.below c.bound-to.ensures now,
@@ -143,7 +143,7 @@ af_step-returns-then-has t c =
     let a = c.requires.0 in
     let h = a.hand in
     let rule = rule-of h in
-    let f = fields h.holding c.entry_at-f.ensures in
+    let f = fields h.holding refl in
     let now = stop-has a.stops a.below c.has.ensures c.if-has.true in (
       wrote-same (af-now-steps a now)
           (wrote-both (code_wrote Rule.AfNow c.code.ensures c.put-on.ensures)
@@ -152,12 +152,12 @@ af_step-returns-then-has t c =
       a.noted,
     )
 
-pub af_step-loop-env-init : goal.af_step-loop-env-init
-af_step-loop-env-init t c =
+pub af_step-loop-t-init : goal.af_step-loop-t-init
+af_step-loop-t-init t c =
     let a = c.requires.0 in
     let h = a.hand in
     let rule = rule-of h in (
-      each_start h.holding.setup.row a.below _ _ _ _ (wrote-place c.put-here.ensures) (number_lt _ _ c.load-there.type_inv)
+      each_start h.holding.setup.row a.below _ _ _ _ (wrote-place c.put-here.ensures) (number_lt _ _ c.load-there.type_inv) (walk-begins c.into_iter-t-iterator.ensures.into_iter_gives c.stages-t-items.ensures)
           (next-all h.holding.setup a.below c.load-there.ensures),
       a.noted,
     )
@@ -167,8 +167,8 @@ af_step-overflow_cast-t t c =
     let a = c.requires.0 in
     let h = a.hand in
     let row = h.holding.setup.row in
-    let turn = turn-of c.is_empty.result c.is_empty.ensures c.loop-env-test.true c.lowest-t.ensures refl in
-    record { fits = omega (arith, row.room, each-stage row a.below _ _ _ _ c.loop-env.invariant.0 turn) }
+    let turn = c.in-Some.ensures.steps in
+    record { fits = omega (arith, row.room, each-stage row a.below _ _ _ _ c.loop-t.invariant.0 turn) }
 
 pub af_step-overflow_sub-left : goal.af_step-overflow_sub-left
 af_step-overflow_sub-left t c =
@@ -180,31 +180,26 @@ af_step-af-here-requires t c =
     let h = a.hand in
     let row = h.holding.setup.row in
     let not-now = stop-lacks a.stops a.below c.has.ensures c.if-has.false in
-    let turn = turn-of c.is_empty.result c.is_empty.ensures c.loop-env-test.true c.lowest-t.ensures refl in
-    let edge = each-edge row a.below _ _ _ _ c.loop-env.invariant.0 turn in (
+    let turn = c.in-Some.ensures.steps in
+    let edge = each-edge row a.below _ _ _ _ c.loop-t.invariant.0 turn in (
       omega (arith, c.decreases, a.lasts.before),
       record {
         hand = h;
         stops = a.stops;
-        below = each-stage row a.below _ _ _ _ c.loop-env.invariant.0 turn;
+        below = each-stage row a.below _ _ _ _ c.loop-t.invariant.0 turn;
         lasts = lasts_on h.holding.setup.readable a.lasts not-now edge;
         fuel = omega (arith, a.fuel);
-        noted = c.loop-env.invariant.1;
+        noted = c.loop-t.invariant.1;
       },
     )
 
-pub af_step-loop-env-smaller : goal.af_step-loop-env-smaller
-af_step-loop-env-smaller t c =
-    let turn = turn-of c.is_empty.result c.is_empty.ensures c.loop-env-test.true c.lowest-t.ensures c.rest-there.ensures in
-    walk-falls turn
-
-pub af_step-loop-env-preserved : goal.af_step-loop-env-preserved
-af_step-loop-env-preserved t c =
+pub af_step-loop-t-preserved : goal.af_step-loop-t-preserved
+af_step-loop-t-preserved t c =
     let a = c.requires.0 in
     let h = a.hand in
     let row = h.holding.setup.row in
-    let turn = turn-of c.is_empty.result c.is_empty.ensures c.loop-env-test.true c.lowest-t.ensures c.rest-there.ensures in
-    (turns-on row a.below _ _ _ _ c.loop-env.invariant.0 turn c.af-here.ensures.0, c.af-here.ensures.1)
+    let turn = c.in-Some.ensures.steps in
+    (turns-on row a.below _ _ _ _ c.loop-t.invariant.0 turn c.af-here.ensures.0, c.af-here.ensures.1)
 
 pub af_step-returns : goal.af_step-returns
 af_step-returns t c =
@@ -214,9 +209,8 @@ af_step-returns t c =
     let not-now = stop-lacks a.stops a.below c.has.ensures c.if-has.false in (
       wrote-same (af-later-steps a not-now)
           (wrote-both (code_wrote Rule.AfLater c.code-2.ensures c.put-here.ensures)
-          (each-end row a.below _ _ _ _ c.loop-env.invariant.0 c.is_empty.result c.is_empty.ensures
-          c.loop-env-test.false)),
-      c.loop-env.invariant.1,
+          (each-end row a.below _ _ _ _ c.loop-t.invariant.0 c.in-None.ensures.steps.0)),
+      c.loop-t.invariant.1,
     )
 
 -- ---- `ar_from` and `ar`: a walk of AR
@@ -224,14 +218,14 @@ af_step-returns t c =
 pub ar_from-returns-then-out-at : goal.ar_from-returns-then-out-at
 ar_from-returns-then-out-at t c = wrote-past _ _ _ _ c.if-out-at.true
 
-pub ar_from-entry_at-f-requires : goal.ar_from-entry_at-f-requires
-ar_from-entry_at-f-requires t c =
+pub ar_from-bounds-entries-e : goal.ar_from-bounds-entries-e
+ar_from-bounds-entries-e t c =
     omega (arith, c.requires.holding.entry, c.requires.holding.setup.most)
 
 pub ar_from-where_on-stop-requires : goal.ar_from-where_on-stop-requires
 ar_from-where_on-stop-requires t c =
     let h = c.requires in
-    let f = fields h.holding c.entry_at-f.ensures in
+    let f = fields h.holding refl in
     let rule = rule-of h in
     (ready_of h.holding f.a rule.a c.byte-n.ensures, omega (arith, f.x, rule.x))
 
@@ -247,7 +241,7 @@ ar_from-ar-requires t c =
     let e = c.args.e in
     let env = c.args.env in
     let h = c.requires in
-    let f = fields h.holding c.entry_at-f.ensures in
+    let f = fields h.holding refl in
     let rule = rule-of h in
     let s-is = start_is h.holding f c.stage_of.ensures in
     let below = start-below h.holding rule.t in (
@@ -265,7 +259,7 @@ ar_from-ar-requires t c =
 pub ar_from-returns : goal.ar_from-returns
 ar_from-returns t c =
     let h = c.requires in
-    let f = fields h.holding c.entry_at-f.ensures in
+    let f = fields h.holding refl in
     let s-is = start_is h.holding f c.stage_of.ensures in
     wrote-same (ar-begins h c.byte-n.ensures c.empty.ensures s-is) c.ar.ensures
 
@@ -282,15 +276,15 @@ ar-returns-then-has t c =
     wrote-same (ar-merges c.args.image.now c.args.table.now c.args.side c.args.e c.args.env _ _ _ (omega (arith, c.if-left-eq0.false)) (walk-has _ _
     c.has.ensures c.if-has.true)) (code_wrote Rule.ArMerge c.code.ensures c.put.ensures)
 
-pub ar-entry_at-f-requires : goal.ar-entry_at-f-requires
-ar-entry_at-f-requires t c =
+pub ar-bounds-entries-e : goal.ar-bounds-entries-e
+ar-bounds-entries-e t c =
     omega (arith, c.requires.hand.holding.entry, c.requires.hand.holding.setup.most)
 
 pub ar-formula-a-requires : goal.ar-formula-a-requires
 ar-formula-a-requires t c =
     let a = c.requires in
     let h = a.hand in
-    let f = fields h.holding c.entry_at-f.ensures in
+    let f = fields h.holding refl in
     let rule = rule-of h in
     let released = stop-has a.stops a.below c.has-2.ensures c.if-has-2.true in (
       omega (arith, c.decreases, f.a, rule.a),
@@ -306,7 +300,7 @@ ar-formula-requires t c =
     let env = c.args.env in
     let a = c.requires in
     let h = a.hand in
-    let f = fields h.holding c.entry_at-f.ensures in
+    let f = fields h.holding refl in
     let rule = rule-of h in
     let b_here = ar-here h.holding.setup.readable (a_of image table side e (env_of env)).holds (b_of image table side e (env_of env)).holds _
     a.below a.holds in (
@@ -323,7 +317,7 @@ ar-returns-then-has-2 t c =
     let env = c.args.env in
     let a = c.requires in
     let h = a.hand in
-    let f = fields h.holding c.entry_at-f.ensures in
+    let f = fields h.holding refl in
     let rule = rule-of h in
     let released = stop-has a.stops a.below c.has-2.ensures c.if-has-2.true in
     wrote-same (ar-releases image table side e env _ _ _ (omega (arith, c.if-left-eq0.false)) (walk-lacks _ _ c.has.ensures c.if-has.false) released)
@@ -340,7 +334,7 @@ ar-formula-here-requires t c =
     let env = c.args.env in
     let a = c.requires in
     let h = a.hand in
-    let f = fields h.holding c.entry_at-f.ensures in
+    let f = fields h.holding refl in
     let rule = rule-of h in
     let b_here = ar-here h.holding.setup.readable (a_of image table side e (env_of env)).holds (b_of image table side e (env_of env)).holds _
     a.below a.holds in (
@@ -348,11 +342,11 @@ ar-formula-here-requires t c =
       under h.holding f.b rule.b f.y (omega (arith, rule.y)) a.below c.bound-to-2.ensures b_here,
     )
 
-pub ar-loop-env-init : goal.ar-loop-env-init
-ar-loop-env-init t c =
+pub ar-loop-t-init : goal.ar-loop-t-init
+ar-loop-t-init t c =
     let a = c.requires in
     let h = a.hand in
-    each_start h.holding.setup.row a.below _ _ _ _ (wrote-place c.formula-here.ensures) (number_lt _ _ c.load-there.type_inv)
+    each_start h.holding.setup.row a.below _ _ _ _ (wrote-place c.formula-here.ensures) (number_lt _ _ c.load-there.type_inv) (walk-begins c.into_iter-t-iterator.ensures.into_iter_gives c.stages-t-items.ensures)
     (next-all h.holding.setup a.below c.load-there.ensures)
 
 pub ar-overflow_cast-t : goal.ar-overflow_cast-t
@@ -360,8 +354,8 @@ ar-overflow_cast-t t c =
     let a = c.requires in
     let h = a.hand in
     let row = h.holding.setup.row in
-    let turn = turn-of c.is_empty.result c.is_empty.ensures c.loop-env-test.true c.lowest-t.ensures refl in
-    record { fits = omega (arith, row.room, each-stage row a.below _ _ _ _ c.loop-env.invariant turn) }
+    let turn = c.in-Some.ensures.steps in
+    record { fits = omega (arith, row.room, each-stage row a.below _ _ _ _ c.loop-t.invariant turn) }
 
 pub ar-overflow_sub-left : goal.ar-overflow_sub-left
 ar-overflow_sub-left t c =
@@ -378,31 +372,26 @@ ar-ar-here-requires t c =
     let h = a.hand in
     let row = h.holding.setup.row in
     let on = stop-lacks a.stops a.below c.has-2.ensures c.if-has-2.false in
-    let turn = turn-of c.is_empty.result c.is_empty.ensures c.loop-env-test.true c.lowest-t.ensures refl in
-    let edge = each-edge row a.below _ _ _ _ c.loop-env.invariant turn in (
+    let turn = c.in-Some.ensures.steps in
+    let edge = each-edge row a.below _ _ _ _ c.loop-t.invariant turn in (
       omega (arith, c.decreases, c.if-left-eq0.false),
       record {
         hand = h;
         stops = a.stops;
-        below = each-stage row a.below _ _ _ _ c.loop-env.invariant turn;
+        below = each-stage row a.below _ _ _ _ c.loop-t.invariant turn;
         holds = ar-there h.holding.setup.readable (a_of image table side e (env_of env)).holds (b_of image table side e (env_of env)).holds _ a.below
             a.holds on _ edge;
         fuel = omega (arith, a.fuel);
       },
     )
 
-pub ar-loop-env-smaller : goal.ar-loop-env-smaller
-ar-loop-env-smaller t c =
-    let turn = turn-of c.is_empty.result c.is_empty.ensures c.loop-env-test.true c.lowest-t.ensures c.rest-there.ensures in
-    walk-falls turn
-
-pub ar-loop-env-preserved : goal.ar-loop-env-preserved
-ar-loop-env-preserved t c =
+pub ar-loop-t-preserved : goal.ar-loop-t-preserved
+ar-loop-t-preserved t c =
     let a = c.requires in
     let h = a.hand in
     let row = h.holding.setup.row in
-    let turn = turn-of c.is_empty.result c.is_empty.ensures c.loop-env-test.true c.lowest-t.ensures c.rest-there.ensures in
-    turns-on row a.below _ _ _ _ c.loop-env.invariant turn c.ar-here.ensures
+    let turn = c.in-Some.ensures.steps in
+    turns-on row a.below _ _ _ _ c.loop-t.invariant turn c.ar-here.ensures
 
 pub ar-returns : goal.ar-returns
 ar-returns t c =
@@ -413,7 +402,7 @@ ar-returns t c =
     let env = c.args.env in
     let a = c.requires in
     let h = a.hand in
-    let f = fields h.holding c.entry_at-f.ensures in
+    let f = fields h.holding refl in
     let rule = rule-of h in
     let row = h.holding.setup.row in
     let on = stop-lacks a.stops a.below c.has-2.ensures c.if-has-2.false in
@@ -421,21 +410,21 @@ ar-returns t c =
     c.if-has.false) c.with-longer.ensures on)
     (wrote-both (code_wrote Rule.ArOn c.code-2.ensures c.put-on-2.ensures)
     (wrote-both (operand-wrote image table side f.b f.y (omega (arith, rule.y)) c.bound-to-2.ensures c.formula-here.ensures)
-    (each-end row a.below _ _ _ _ c.loop-env.invariant c.is_empty.result c.is_empty.ensures c.loop-env-test.false)))
+    (each-end row a.below _ _ _ _ c.loop-t.invariant c.in-None.ensures.steps.0)))
 
 -- ---- `eg` and `eu`: walks that go on at a chosen successor, in a loop
 
 pub eg-returns-then-out-at : goal.eg-returns-then-out-at
 eg-returns-then-out-at t c = wrote-past _ _ _ _ c.if-out-at.true
 
-pub eg-entry_at-f-requires : goal.eg-entry_at-f-requires
-eg-entry_at-f-requires t c =
+pub eg-bounds-entries-e : goal.eg-bounds-entries-e
+eg-bounds-entries-e t c =
     omega (arith, c.requires.holding.entry, c.requires.holding.setup.most)
 
 pub eg-eg-requires : goal.eg-eg-requires
 eg-eg-requires t c =
     let h = c.requires in
-    let f = fields h.holding c.entry_at-f.ensures in
+    let f = fields h.holding refl in
     let rule = rule-of h in (
       ready_of h.holding f.a rule.a c.byte-n.ensures,
       omega (arith, f.x, rule.x),
@@ -451,7 +440,7 @@ pub eg-loop-left-init : goal.eg-loop-left-init
 eg-loop-left-init t c =
     let image = c.args.image.now in
     let h = c.requires in
-    let f = fields h.holding c.entry_at-f.ensures in
+    let f = fields h.holding refl in
     let rule = rule-of h in
     let s-is = start_is h.holding f c.stage_of-s.ensures in
     let below = start-below h.holding rule.t in
@@ -479,7 +468,7 @@ eg-formula-here-requires t c =
     let side = c.args.side in
     let env = c.args.env in
     let h = c.requires in
-    let f = fields h.holding c.entry_at-f.ensures in
+    let f = fields h.holding refl in
     let rule = rule-of h in
     let c-is = leads-of image table side env f.a f.x c.byte-n.ensures c.loop-left.invariant.below c.eg.ensures in
     let on = eg-holds h.holding.setup.readable
@@ -500,7 +489,7 @@ eg-loop-left-preserved t c =
     let e = c.args.e in
     let env = c.args.env in
     let h = c.requires in
-    let f = fields h.holding c.entry_at-f.ensures in
+    let f = fields h.holding refl in
     let rule = rule-of h in
     let c-is = leads-of image table side env f.a f.x c.byte-n.ensures c.loop-left.invariant.below c.eg.ensures in
     let on = eg-holds h.holding.setup.readable (a_of image table side e (env_of env)).holds _ c.loop-left.invariant.below c-is c.loop-left.invariant.holds in
@@ -523,14 +512,14 @@ eg-returns t c =
 pub eu-returns-then-out-at : goal.eu-returns-then-out-at
 eu-returns-then-out-at t c = wrote-past _ _ _ _ c.if-out-at.true
 
-pub eu-entry_at-f-requires : goal.eu-entry_at-f-requires
-eu-entry_at-f-requires t c =
+pub eu-bounds-entries-e : goal.eu-bounds-entries-e
+eu-bounds-entries-e t c =
     omega (arith, c.requires.holding.entry, c.requires.holding.setup.most)
 
 pub eu-eu-now-requires : goal.eu-eu-now-requires
 eu-eu-now-requires t c =
     let h = c.requires in
-    let f = fields h.holding c.entry_at-f.ensures in
+    let f = fields h.holding refl in
     let rule = rule-of h in (
       ready_of h.holding f.a rule.a c.byte-n.ensures,
       omega (arith, f.x, rule.x),
@@ -553,7 +542,7 @@ eu-loop-left-init t c =
     let e = c.args.e in
     let env = c.args.env in
     let h = c.requires in
-    let f = fields h.holding c.entry_at-f.ensures in
+    let f = fields h.holding refl in
     let rule = rule-of h in
     let s-is = start_is h.holding f c.stage_of-s.ensures in
     let below = start-below h.holding rule.t in
@@ -568,7 +557,7 @@ eu-loop-left-init t c =
 pub eu-formula-requires : goal.eu-formula-requires
 eu-formula-requires t c =
     let h = c.requires in
-    let f = fields h.holding c.entry_at-f.ensures in
+    let f = fields h.holding refl in
     let rule = rule-of h in
     let nows = collects-of c.args.image.now c.args.table.now c.args.side c.args.env f.b f.y c.byte-n.ensures c.eu-now.ensures.nows in (
       omega (arith, c.decreases, f.b, rule.b),
@@ -583,7 +572,7 @@ eu-returns-then-has t c =
     let side = c.args.side in
     let env = c.args.env in
     let h = c.requires in
-    let f = fields h.holding c.entry_at-f.ensures in
+    let f = fields h.holding refl in
     let rule = rule-of h in
     let nows = collects-of image table side env f.b f.y c.byte-n.ensures c.eu-now.ensures.nows in
     going_end c.loop-left.invariant.going (wrote-same (eu-stops image table side c.args.e env _ _ c.loop-left-test.true c.loop-left.invariant.walk
@@ -603,7 +592,7 @@ eu-formula-here-requires t c =
     let e = c.args.e in
     let env = c.args.env in
     let h = c.requires in
-    let f = fields h.holding c.entry_at-f.ensures in
+    let f = fields h.holding refl in
     let rule = rule-of h in
     let nows = collects-of image table side env f.b f.y c.byte-n.ensures c.eu-now.ensures.nows in
     let f-not = stop-lacks nows c.loop-left.invariant.below c.has.ensures c.if-has.false in
@@ -622,7 +611,7 @@ eu-loop-left-preserved t c =
     let e = c.args.e in
     let env = c.args.env in
     let h = c.requires in
-    let f = fields h.holding c.entry_at-f.ensures in
+    let f = fields h.holding refl in
     let rule = rule-of h in
     let nows = collects-of image table side env f.b f.y c.byte-n.ensures c.eu-now.ensures.nows in
     let f-not = stop-lacks nows c.loop-left.invariant.below c.has.ensures c.if-has.false in
@@ -646,68 +635,68 @@ eu-returns t c =
 
 -- ---- `formula` and `or`: by the kind, and left or right
 
-pub formula-entry_at-f-requires : goal.formula-entry_at-f-requires
-formula-entry_at-f-requires t c =
+pub formula-bounds-entries-e : goal.formula-bounds-entries-e
+formula-bounds-entries-e t c =
     omega (arith, c.requires.entry, c.requires.setup.most)
 
 pub formula-formula-a-requires : goal.formula-formula-a-requires
 formula-formula-a-requires t c =
-    let f = fields c.requires c.entry_at-f.ensures in
-    let h : InHand _ _ _ _ _ _ _ K.And = in_arm c.requires c.entry_at-f.ensures c.kind_of.ensures c.in-And.is in
+    let f = fields c.requires refl in
+    let h : InHand _ _ _ _ _ _ _ K.And = in_arm c.requires refl c.kind_of.ensures c.in-And.is in
     (omega (arith, c.decreases, f.a, (rule-of h).a), same-env c.requires f.a (rule-of h).a (and_both h).0)
 
 pub formula-formula-requires : goal.formula-formula-requires
 formula-formula-requires t c =
-    let f = fields c.requires c.entry_at-f.ensures in
-    let h : InHand _ _ _ _ _ _ _ K.And = in_arm c.requires c.entry_at-f.ensures c.kind_of.ensures c.in-And.is in
+    let f = fields c.requires refl in
+    let h : InHand _ _ _ _ _ _ _ K.And = in_arm c.requires refl c.kind_of.ensures c.in-And.is in
     (omega (arith, c.decreases, f.b, (rule-of h).b), same-env c.requires f.b (rule-of h).b (and_both h).1)
 
 pub formula-or-requires : goal.formula-or-requires
 formula-or-requires t c =
-    (omega (arith, c.decreases), in_arm c.requires c.entry_at-f.ensures c.kind_of.ensures c.in-Or.is)
+    (omega (arith, c.decreases), in_arm c.requires refl c.kind_of.ensures c.in-Or.is)
 
 pub formula-ax-requires : goal.formula-ax-requires
 formula-ax-requires t c =
-    (omega (arith, c.decreases), in_arm c.requires c.entry_at-f.ensures c.kind_of.ensures c.in-AX.is)
+    (omega (arith, c.decreases), in_arm c.requires refl c.kind_of.ensures c.in-AX.is)
 
 pub formula-ex-requires : goal.formula-ex-requires
 formula-ex-requires t c =
-    (omega (arith, c.decreases), in_arm c.requires c.entry_at-f.ensures c.kind_of.ensures c.in-EX.is)
+    (omega (arith, c.decreases), in_arm c.requires refl c.kind_of.ensures c.in-EX.is)
 
 pub formula-af_from-requires : goal.formula-af_from-requires
 formula-af_from-requires t c =
-    (omega (arith, c.decreases), in_arm c.requires c.entry_at-f.ensures c.kind_of.ensures c.in-AF.is)
+    (omega (arith, c.decreases), in_arm c.requires refl c.kind_of.ensures c.in-AF.is)
 
 pub formula-eg-requires : goal.formula-eg-requires
 formula-eg-requires t c =
-    (omega (arith, c.decreases), in_arm c.requires c.entry_at-f.ensures c.kind_of.ensures c.in-EG.is)
+    (omega (arith, c.decreases), in_arm c.requires refl c.kind_of.ensures c.in-EG.is)
 
 pub formula-ar_from-requires : goal.formula-ar_from-requires
 formula-ar_from-requires t c =
-    (omega (arith, c.decreases), in_arm c.requires c.entry_at-f.ensures c.kind_of.ensures c.in-AR.is)
+    (omega (arith, c.decreases), in_arm c.requires refl c.kind_of.ensures c.in-AR.is)
 
 pub formula-eu-requires : goal.formula-eu-requires
 formula-eu-requires t c =
-    (omega (arith, c.decreases), in_arm c.requires c.entry_at-f.ensures c.kind_of.ensures c.in-EU.is)
+    (omega (arith, c.decreases), in_arm c.requires refl c.kind_of.ensures c.in-EU.is)
 
 pub formula-returns-in-True : goal.formula-returns-in-True
 formula-returns-in-True t c =
-    let h : InHand _ _ _ _ _ _ _ K.True = in_arm c.requires c.entry_at-f.ensures c.kind_of.ensures c.in-True.is in
+    let h : InHand _ _ _ _ _ _ _ K.True = in_arm c.requires refl c.kind_of.ensures c.in-True.is in
     wrote-same (true-steps h) (code_wrote Rule.True c.code.ensures c.put.ensures)
 
 pub formula-returns-in-False : goal.formula-returns-in-False
 formula-returns-in-False t c =
-    let h : InHand _ _ _ _ _ _ _ K.False = in_arm c.requires c.entry_at-f.ensures c.kind_of.ensures c.in-False.is in
+    let h : InHand _ _ _ _ _ _ _ K.False = in_arm c.requires refl c.kind_of.ensures c.in-False.is in
     absurd (false-never h)
 
 pub formula-returns-in-Is : goal.formula-returns-in-Is
 formula-returns-in-Is t c =
-    let h : InHand _ _ _ _ _ _ _ K.Is = in_arm c.requires c.entry_at-f.ensures c.kind_of.ensures c.in-Is.is in
+    let h : InHand _ _ _ _ _ _ _ K.Is = in_arm c.requires refl c.kind_of.ensures c.in-Is.is in
     wrote-same (is-steps h) (code_wrote Rule.Holds c.code-in-Is.ensures c.put-in-Is.ensures)
 
 pub formula-returns-in-IsNot : goal.formula-returns-in-IsNot
 formula-returns-in-IsNot t c =
-    let h : InHand _ _ _ _ _ _ _ K.IsNot = in_arm c.requires c.entry_at-f.ensures c.kind_of.ensures c.in-IsNot.is in
+    let h : InHand _ _ _ _ _ _ _ K.IsNot = in_arm c.requires refl c.kind_of.ensures c.in-IsNot.is in
     wrote-same (is-not-steps h) (code_wrote Rule.HoldsNot c.code-in-IsNot.ensures c.put-in-IsNot.ensures)
 
 pub formula-returns-in-And : goal.formula-returns-in-And
@@ -715,8 +704,8 @@ formula-returns-in-And t c =
     let image = c.args.image.now in
     let table = c.args.table.now in
     let side = c.args.side in
-    let f = fields c.requires c.entry_at-f.ensures in
-    let h : InHand _ _ _ _ _ _ _ K.And = in_arm c.requires c.entry_at-f.ensures c.kind_of.ensures c.in-And.is in
+    let f = fields c.requires refl in
+    let h : InHand _ _ _ _ _ _ _ K.And = in_arm c.requires refl c.kind_of.ensures c.in-And.is in
     wrote-same (and-steps h)
     (wrote-both (code_wrote Rule.And c.code-in-And.ensures c.put-on.ensures)
     (wrote-both (plain-wrote image table side f.a _ c.formula-a.ensures) (plain-wrote image table side f.b _ c.formula.ensures)))
@@ -744,27 +733,27 @@ formula-returns-in-EU t c = c.eu.ensures
 
 pub formula-returns-in-NoKind : goal.formula-returns-in-NoKind
 formula-returns-in-NoKind t c =
-    let h : InHand _ _ _ _ _ _ _ K.NoKind = in_arm c.requires c.entry_at-f.ensures c.kind_of.ensures c.in-NoKind.is in
+    let h : InHand _ _ _ _ _ _ _ K.NoKind = in_arm c.requires refl c.kind_of.ensures c.in-NoKind.is in
     absurd (no_kind h)
 
 pub or-returns-then-out-at : goal.or-returns-then-out-at
 or-returns-then-out-at t c = wrote-past _ _ _ _ c.if-out-at.true
 
-pub or-entry_at-f-requires : goal.or-entry_at-f-requires
-or-entry_at-f-requires t c =
+pub or-bounds-entries-e : goal.or-bounds-entries-e
+or-bounds-entries-e t c =
     omega (arith, c.requires.holding.entry, c.requires.holding.setup.most)
 
 pub or-holds_on-requires : goal.or-holds_on-requires
 or-holds_on-requires t c =
     let h = c.requires in
-    let f = fields h.holding c.entry_at-f.ensures in
+    let f = fields h.holding refl in
     let rule = rule-of h in
     ready_of h.holding f.a rule.a c.byte.ensures
 
 pub or-formula-requires : goal.or-formula-requires
 or-formula-requires t c =
     let h = c.requires in
-    let f = fields h.holding c.entry_at-f.ensures in
+    let f = fields h.holding refl in
     let rule = rule-of h in (
       omega (arith, c.decreases, f.a, rule.a),
       same-env h.holding f.a rule.a (told-true c.args.image.now c.args.table.now c.args.side
@@ -777,14 +766,14 @@ or-returns-then-holds_on t c =
     let table = c.args.table.now in
     let side = c.args.side in
     let h = c.requires in
-    let f = fields h.holding c.entry_at-f.ensures in
+    let f = fields h.holding refl in
     wrote-same (left-steps h (told-true image table side c.args.env f.a c.holds_on.ensures c.if-holds_on.true))
     (wrote-both (code_wrote Rule.OrLeft c.code.ensures c.put-on.ensures) (plain-wrote image table side f.a _ c.formula.ensures))
 
 pub or-formula-requires-2 : goal.or-formula-requires-2
 or-formula-requires-2 t c =
     let h = c.requires in
-    let f = fields h.holding c.entry_at-f.ensures in
+    let f = fields h.holding refl in
     let rule = rule-of h in (
       omega (arith, c.decreases, f.b, rule.b),
       same-env h.holding f.b rule.b (or_right h (told-false c.args.image.now c.args.table.now c.args.side c.args.env f.a
@@ -797,7 +786,7 @@ or-returns t c =
     let table = c.args.table.now in
     let side = c.args.side in
     let h = c.requires in
-    let f = fields h.holding c.entry_at-f.ensures in
+    let f = fields h.holding refl in
     wrote-same (right-steps h (told-false image table side c.args.env f.a c.holds_on.ensures c.if-holds_on.false))
     (wrote-both (code_wrote Rule.OrRight c.code-2.ensures c.put-on-2.ensures) (plain-wrote image table side f.b _
     c.formula-2.ensures))
@@ -807,18 +796,18 @@ or-returns t c =
 pub ax-returns-then-out-at : goal.ax-returns-then-out-at
 ax-returns-then-out-at t c = wrote-past _ _ _ _ c.if-out-at.true
 
-pub ax-entry_at-f-requires : goal.ax-entry_at-f-requires
-ax-entry_at-f-requires t c =
+pub ax-bounds-entries-e : goal.ax-bounds-entries-e
+ax-bounds-entries-e t c =
     omega (arith, c.requires.holding.entry, c.requires.holding.setup.most)
 
-pub ax-loop-env-init : goal.ax-loop-env-init
-ax-loop-env-init t c =
+pub ax-loop-t-init : goal.ax-loop-t-init
+ax-loop-t-init t c =
     let h = c.requires in
-    let f = fields h.holding c.entry_at-f.ensures in
+    let f = fields h.holding refl in
     let rule = rule-of h in
     let row = h.holding.setup.row in
     let below = start-below h.holding rule.t in
-    each_start row below _ _ _ _ (wrote-place c.put-here.ensures) (number_lt _ _ c.load-there.type_inv)
+    each_start row below _ _ _ _ (wrote-place c.put-here.ensures) (number_lt _ _ c.load-there.type_inv) (walk-begins c.into_iter-t-iterator.ensures.into_iter_gives c.stages-t-items.ensures)
     (next-all h.holding.setup below (c.load-there.ensures ∙ ap (held c.args.next.now) (start_is h.holding f c.stage_of.ensures)))
 
 pub ax-overflow_cast-t : goal.ax-overflow_cast-t
@@ -827,37 +816,32 @@ ax-overflow_cast-t t c =
     let rule = rule-of h in
     let row = h.holding.setup.row in
     let below = start-below h.holding rule.t in
-    let turn = turn-of c.is_empty.result c.is_empty.ensures c.loop-env-test.true c.lowest-t.ensures refl in
-    record { fits = omega (arith, row.room, each-stage row below _ _ _ _ c.loop-env.invariant turn) }
+    let turn = c.in-Some.ensures.steps in
+    record { fits = omega (arith, row.room, each-stage row below _ _ _ _ c.loop-t.invariant turn) }
 
 pub ax-formula-here-requires : goal.ax-formula-here-requires
 ax-formula-here-requires t c =
     let h = c.requires in
-    let f = fields h.holding c.entry_at-f.ensures in
+    let f = fields h.holding refl in
     let rule = rule-of h in
     let row = h.holding.setup.row in
     let below = start-below h.holding rule.t in
-    let turn = turn-of c.is_empty.result c.is_empty.ensures c.loop-env-test.true c.lowest-t.ensures refl in
-    let edge = each-edge row below _ _ _ _ c.loop-env.invariant turn in (
+    let turn = c.in-Some.ensures.steps in
+    let edge = each-edge row below _ _ _ _ c.loop-t.invariant turn in (
       omega (arith, c.decreases, f.a, rule.a),
-      under h.holding f.a rule.a f.x (omega (arith, rule.x)) (each-stage row below _ _ _ _ c.loop-env.invariant turn) c.bound-to.ensures
+      under h.holding f.a rule.a f.x (omega (arith, rule.x)) (each-stage row below _ _ _ _ c.loop-t.invariant turn) c.bound-to.ensures
           ((each_next_lem h.holding.setup.readable _ _).0 (ax-each h) _ edge),
     )
 
-pub ax-loop-env-smaller : goal.ax-loop-env-smaller
-ax-loop-env-smaller t c =
-    let turn = turn-of c.is_empty.result c.is_empty.ensures c.loop-env-test.true c.lowest-t.ensures c.rest-there.ensures in
-    walk-falls turn
-
-pub ax-loop-env-preserved : goal.ax-loop-env-preserved
-ax-loop-env-preserved t c =
+pub ax-loop-t-preserved : goal.ax-loop-t-preserved
+ax-loop-t-preserved t c =
     let h = c.requires in
-    let f = fields h.holding c.entry_at-f.ensures in
+    let f = fields h.holding refl in
     let rule = rule-of h in
     let row = h.holding.setup.row in
     let below = start-below h.holding rule.t in
-    let turn = turn-of c.is_empty.result c.is_empty.ensures c.loop-env-test.true c.lowest-t.ensures c.rest-there.ensures in
-    turns-on row below _ _ _ _ c.loop-env.invariant turn (operand-wrote c.args.image.now c.args.table.now c.args.side f.a f.x (omega (arith, rule.x))
+    let turn = c.in-Some.ensures.steps in
+    turns-on row below _ _ _ _ c.loop-t.invariant turn (operand-wrote c.args.image.now c.args.table.now c.args.side f.a f.x (omega (arith, rule.x))
     c.bound-to.ensures c.formula-here.ensures)
 
 pub ax-returns : goal.ax-returns
@@ -868,19 +852,19 @@ ax-returns t c =
     let below = start-below h.holding rule.t in
     wrote-same (ax-steps h)
     (wrote-both (code_wrote Rule.Ax c.code.ensures c.put-here.ensures)
-    (each-end row below _ _ _ _ c.loop-env.invariant c.is_empty.result c.is_empty.ensures c.loop-env-test.false))
+    (each-end row below _ _ _ _ c.loop-t.invariant c.in-None.ensures.steps.0))
 
 pub ex-returns-then-out-at : goal.ex-returns-then-out-at
 ex-returns-then-out-at t c = wrote-past _ _ _ _ c.if-out-at.true
 
-pub ex-entry_at-f-requires : goal.ex-entry_at-f-requires
-ex-entry_at-f-requires t c =
+pub ex-bounds-entries-e : goal.ex-bounds-entries-e
+ex-bounds-entries-e t c =
     omega (arith, c.requires.holding.entry, c.requires.holding.setup.most)
 
 pub ex-ex-c-requires : goal.ex-ex-c-requires
 ex-ex-c-requires t c =
     let h = c.requires in
-    let f = fields h.holding c.entry_at-f.ensures in
+    let f = fields h.holding refl in
     let rule = rule-of h in
     let s-is = start_is h.holding f c.stage_of-s.ensures in
     let below = start-below h.holding rule.t in (
@@ -897,7 +881,7 @@ ex-formula-requires t c =
     let side = c.args.side in
     let env = c.args.env in
     let h = c.requires in
-    let f = fields h.holding c.entry_at-f.ensures in
+    let f = fields h.holding refl in
     let rule = rule-of h in
     let s-is = start_is h.holding f c.stage_of-s.ensures in
     let below = start-below h.holding rule.t in
@@ -914,7 +898,7 @@ ex-returns t c =
     let side = c.args.side in
     let env = c.args.env in
     let h = c.requires in
-    let f = fields h.holding c.entry_at-f.ensures in
+    let f = fields h.holding refl in
     let rule = rule-of h in
     let s-is = start_is h.holding f c.stage_of-s.ensures in
     let chosen = choice-of image table side env f.a f.x s-is c.ex-c.ensures in

@@ -1,6 +1,5 @@
 -- The writers of steps, `pen::steps`: the measure of each, and what holds at each turn of their loops. The measure counts the entry, and along a walk the
 -- fuel; the small constants order the writers of one step.
-use lib.Count.{ones}
 use Rattle.sets.specs.Number.{number}
 use Rattle.format.specs.Image.{stages_of, graph_of}
 use Rattle.hand.specs.Environment.{env_of}
@@ -12,23 +11,17 @@ use Rattle.checker.specs.Reading.{walk_of}
 use Rattle.pen.proofs.StepLaws.{EgGoing, EuGoing}
 use Rattle.pen.proofs.steps.+af_af_from_af_step_ar_ar_from_ax_eg_eu_ex_formula_or.Given as goal
 
-abbrev pub invariant-af_step-loop-env : goal.invariant-af_step-loop-env
-invariant-af_step-loop-env l =
+abbrev pub invariant-af_step-loop-t : goal.invariant-af_step-loop-t
+invariant-af_step-loop-t l =
     Turns (stages_of l.image) ((graph_of l.image).next l.s) (af_steps l.image l.table l.side l.e (env_of l.env)) l.write l.initial.here l.initial.out
-    (number l.there) l.out l.here
+    (number l.t-iterator.left) l.out l.here
     × Noted l.image l.table l.side l.e (env_of l.env) l.lens
 
-abbrev pub decreases-af_step-loop-env : goal.decreases-af_step-loop-env
-decreases-af_step-loop-env l = ones (number l.there)
-
-abbrev pub invariant-ar-loop-env : goal.invariant-ar-loop-env
-invariant-ar-loop-env l =
+abbrev pub invariant-ar-loop-t : goal.invariant-ar-loop-t
+invariant-ar-loop-t l =
     Turns (stages_of l.image) ((graph_of l.image).next l.s)
     (two_steps l.image l.table l.side Kind.AR l.e (env_of l.env) (l.left - 1) (walk_of (number l.longer))) l.write l.initial.here l.initial.out
-    (number l.there) l.out l.here
-
-abbrev pub decreases-ar-loop-env : goal.decreases-ar-loop-env
-decreases-ar-loop-env l = ones (number l.there)
+    (number l.t-iterator.left) l.out l.here
 
 abbrev pub invariant-eg-loop-left : goal.invariant-eg-loop-left
 invariant-eg-loop-left l =
@@ -77,11 +70,9 @@ decreases-formula l = 400 * l.e + 390
 abbrev pub decreases-or : goal.decreases-or
 decreases-or l = 400 * l.e + 380
 
-abbrev pub invariant-ax-loop-env : goal.invariant-ax-loop-env
-invariant-ax-loop-env l =
+abbrev pub invariant-ax-loop-t : goal.invariant-ax-loop-t
+invariant-ax-loop-t l =
     Turns (stages_of l.image) ((graph_of l.image).next (start_of l.image l.table l.side l.e (env_of l.env)))
     (a_of l.image l.table l.side l.e (env_of l.env)).steps l.write l.initial.here l.initial.out
-    (number l.there) l.out l.here
+    (number l.t-iterator.left) l.out l.here
 
-abbrev pub decreases-ax-loop-env : goal.decreases-ax-loop-env
-decreases-ax-loop-env l = ones (number l.there)

@@ -1,0 +1,8 @@
+-- `Set::common` meets its contract: the set is its number.
+use mathlib.Core.Path.{refl}
+use Rattle.sets.specs.Number.{number}
+use Rattle.sets.proofs.Set.common.Goals as goal
+
+pub returns : goal.returns
+unfolding number
+returns c = refl
