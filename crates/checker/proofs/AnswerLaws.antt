@@ -27,31 +27,28 @@ use Rattle.format.proofs.RefusalLaws.{number-injective, given-first}
 use Rattle.format.proofs.Decision.{outcome, decided-both, question-decided}
 use Rattle.rules.specs.Shape.{Entry}
 use Rattle.rules.specs.Refusals.{refused, at_end, answer, Given22, Given23, Given24, Given25}
-use Rattle.std.specs.Prelude.{Ok, Err}
+use Rattle.std.specs.Prelude.{Result, Ok, Err}
 use Rattle.rules.specs.Reading.{Progress}
 use Rattle.rules.specs.declared.Stop.{Stop}
 use Rattle.rules.proofs.Refused as rules
 use Rattle.hand.specs.Side.{sided}
 use Rattle.checker.specs.Header.{side_of, header_conditions}
 use Rattle.hand.specs.Environment.{started}
-use Rattle.checker.specs.Check.{reading, outer_conditions, step_conditions, CheckAnswer, CheckedAnswer, StepsAnswer}
-use Rattle.checker.specs.declared.answer.Answer.{Answer}
-use Rattle.checker.specs.declared.answer.Answer.TheVariants as An
-use Rattle.checker.specs.declared.answer.Checked.{Checked}
-use Rattle.checker.specs.declared.answer.Checked.TheVariants as Ch
+use Rattle.checker.specs.Check.{reading, outer_conditions, step_conditions, fault_at, CheckAnswer, CheckedAnswer, StepsAnswer}
+use Rattle.checker.specs.declared.answer.Fault.{Fault}
 use Rattle.checker.proofs.CheckLaws.{missing, wrong, fails, remain, inside-certificate, after-header}
 use Rattle.checker.proofs.CertificateLaws.{question-clear, headers-clear, header-does-fit, header-does-name, header-decided, asked-readable, asked-small}
 
 -- At the certificate's end its side is accepted; elsewhere bytes remain.
-abbrev ended : Bool → ℕ → ℕ → Checked
-ended true side end = Ch.Side side
-ended false side end = Ch.Refused R.BytesRemain end
+abbrev ended : Bool → ℕ → ℕ → Result ℕ Fault
+ended true side end = Ok side
+ended false side end = Err (fault_at R.BytesRemain end)
 
-abbrev pub told : List ℕ → Progress → Checked
+abbrev pub told : List ℕ → Progress → Result ℕ Fault
 told certificate (Ok end) = ended (eqb end (length certificate)) (side_of certificate) end
-told certificate (Err Stop.Missing) = Ch.Refused R.ByteMissing (length certificate)
-told certificate (Err (Stop.Wrong place)) = Ch.Refused R.WrongCode place
-told certificate (Err (Stop.Fails place)) = Ch.Refused R.ConditionFails place
+told certificate (Err Stop.Missing) = Err (fault_at R.ByteMissing (length certificate))
+told certificate (Err (Stop.Wrong place)) = Err (fault_at R.WrongCode place)
+told certificate (Err (Stop.Fails place)) = Err (fault_at R.ConditionFails place)
 
 -- It is what is said of the steps, where their reading ends within the certificate.
 told-steps : (certificate : List ℕ) (p : Progress) → ((end : ℕ) → p ≡ Ok end → end ≤ length certificate)
@@ -66,18 +63,18 @@ told-steps certificate (Err (Stop.Wrong place)) inside = wrong certificate refl
 told-steps certificate (Err (Stop.Fails place)) inside = fails certificate refl
 
 -- Two refusals with their places are one exactly when their numbers and places are.
-numbered : (j k : Refusal) (q place : ℕ) → (Ch.Refused j q ≡ Ch.Refused k place) ↔ (refused (number j) q ≡ refused (number k) place)
+numbered : (j k : Refusal) (q place : ℕ) → (◌≡◌ {A = Result ℕ Fault} (Err (fault_at j q)) (Err (fault_at k place))) ↔ (refused (number j) q ≡ refused (number k) place)
 numbered j k q place = (
-  λ e. let f : j ≡ k = cc in let g : q ≡ place = cc in λ i. refused (number (f i)) (g i),
-  λ e. let f : number j ≡ number k = cc in let g : q ≡ place = cc in λ i. Ch.Refused (number-injective j k f i) (g i),
+  λ e. let same : fault_at j q ≡ fault_at k place = cc in ap (λ (f : Fault). refused (number f.refusal) f.place) same,
+  λ e. let f : number j ≡ number k = cc in let g : q ≡ place = cc in λ i. Err (fault_at (number-injective j k f i) (g i)),
 )
 
 -- The refusals are those of `rules`, with their places.
 told-refused : (certificate : List ℕ) (p : Progress) (k : Refusal) (place : ℕ)
-    → (told certificate p ≡ Ch.Refused k place) ↔ (answer certificate p ≡ refused (number k) place)
+    → (told certificate p ≡ Err (fault_at k place)) ↔ (answer certificate p ≡ refused (number k) place)
 told-refused certificate (Ok end) k place = go (eqb end (length certificate))
   where
-    go : (b : Bool) → (ended b (side_of certificate) end ≡ Ch.Refused k place) ↔ (at_end b end ≡ refused (number k) place)
+    go : (b : Bool) → (ended b (side_of certificate) end ≡ Err (fault_at k place)) ↔ (at_end b end ≡ refused (number k) place)
     go true = (λ e. absurd (let z : ◌≡◌ {A = ℕ} 0 1 = cc in omega arith), λ e. absurd (let z : ◌≡◌ {A = ℕ} 0 1 = cc in omega arith))
     go false = numbered R.BytesRemain k end place
 told-refused certificate (Err Stop.Missing) k place = numbered R.ByteMissing k (length certificate) place
@@ -85,26 +82,26 @@ told-refused certificate (Err (Stop.Wrong q)) k place = numbered R.WrongCode k q
 told-refused certificate (Err (Stop.Fails q)) k place = numbered R.ConditionFails k q place
 
 -- Without its place.
-abbrev pub bare : Checked → Answer
-bare (Ch.Side side) = An.Accepted side
-bare (Ch.Refused k place) = An.Refused k
+abbrev pub bare : Result ℕ Fault → Result ℕ Refusal
+bare (Ok side) = Ok side
+bare (Err f) = Err f.refusal
 
-pub bare-answer : (image table certificate : List ℕ) (goal start : ℕ) (c : Checked) → CheckedAnswer image table certificate goal start c
+pub bare-answer : (image table certificate : List ℕ) (goal start : ℕ) (c : Result ℕ Fault) → CheckedAnswer image table certificate goal start c
     → CheckAnswer image table certificate goal start (bare c)
-bare-answer image table certificate goal start (Ch.Side side) a = a
-bare-answer image table certificate goal start (Ch.Refused k place) a = a.given
+bare-answer image table certificate goal start (Ok side) a = a
+bare-answer image table certificate goal start (Err f) a = a.given
 
-pub unplaced : (c : Checked) (k : Refusal) → (bare c ≡ An.Refused k) ↔ ((place : ℕ) × (c ≡ Ch.Refused k place))
-unplaced (Ch.Side side) k =
+pub unplaced : (c : Result ℕ Fault) (k : Refusal) → (bare c ≡ Err k) ↔ ((place : ℕ) × (c ≡ Err (fault_at k place)))
+unplaced (Ok side) k =
     (λ e. absurd (let z : ◌≡◌ {A = ℕ} 0 1 = cc in omega arith), λ g. let e = g.1 in absurd (let z : ◌≡◌ {A = ℕ} 0 1 = cc in omega arith))
-unplaced (Ch.Refused j q) k = (λ e. let f : j ≡ k = cc in (q, ap (λ (i : Refusal). Ch.Refused i q) f), λ g. let e = g.1 in cc)
+unplaced (Err f) k = (λ e. let same : f.refusal ≡ k = cc in (f.place, ap (λ (i : Refusal). Err (fault_at i f.place)) same), λ g. let e = g.1 in cc)
 
 -- What a certificate is to prove, by the rules: the goal's formula on the side that it names.
 abbrev pub proved : List ℕ → List ℕ → List ℕ → ℕ → ℕ → Entry
 proved image table certificate goal start = record { formula = sided (side_of certificate) (tree_of image table goal); env = started start }
 
 module _ (image table certificate : List ℕ) (goal start : ℕ) (clear : Clear (outer_conditions image table certificate goal start)) where
-  abbrev pub told_here : Checked
+  abbrev pub told_here : Result ℕ Fault
   told_here = told certificate (reading image table certificate goal start)
 
   abbrev goal_here : Entry
@@ -127,25 +124,25 @@ module _ (image table certificate : List ℕ) (goal start : ℕ) (clear : Clear 
       (λ end e. inside-certificate question certificate fits.begins.long e))
 
   -- When each refusal of the steps is given, and with which place.
-  pub placed-22 : (place : ℕ) → (told_here ≡ Ch.Refused R.ByteMissing place) ↔ Given22 (graph_of image) certificate goal_here 8 place
+  pub placed-22 : (place : ℕ) → (told_here ≡ Err (fault_at R.ByteMissing place)) ↔ Given22 (graph_of image) certificate goal_here 8 place
   unfolding reading
   placed-22 place =
       Iff.trans (told-refused certificate (reading image table certificate goal start) R.ByteMissing place)
       (rules.given-22 graph small certificate goal_here 8 place)
 
-  pub placed-23 : (place : ℕ) → (told_here ≡ Ch.Refused R.WrongCode place) ↔ Given23 (graph_of image) certificate goal_here 8 place
+  pub placed-23 : (place : ℕ) → (told_here ≡ Err (fault_at R.WrongCode place)) ↔ Given23 (graph_of image) certificate goal_here 8 place
   unfolding reading
   placed-23 place =
       Iff.trans (told-refused certificate (reading image table certificate goal start) R.WrongCode place)
       (rules.given-23 graph small certificate goal_here 8 place)
 
-  pub placed-24 : (place : ℕ) → (told_here ≡ Ch.Refused R.ConditionFails place) ↔ Given24 (graph_of image) certificate goal_here 8 place
+  pub placed-24 : (place : ℕ) → (told_here ≡ Err (fault_at R.ConditionFails place)) ↔ Given24 (graph_of image) certificate goal_here 8 place
   unfolding reading
   placed-24 place =
       Iff.trans (told-refused certificate (reading image table certificate goal start) R.ConditionFails place)
       (rules.given-24 graph small certificate goal_here 8 place)
 
-  pub placed-25 : (place : ℕ) → (told_here ≡ Ch.Refused R.BytesRemain place) ↔ Given25 (graph_of image) certificate goal_here 8 place
+  pub placed-25 : (place : ℕ) → (told_here ≡ Err (fault_at R.BytesRemain place)) ↔ Given25 (graph_of image) certificate goal_here 8 place
   unfolding reading
   placed-25 place =
       Iff.trans (told-refused certificate (reading image table certificate goal start) R.BytesRemain place)
@@ -165,11 +162,11 @@ module _ (image table certificate : List ℕ) (goal start : ℕ) where
       (header-decided certificate goal start))
 
   -- The refusal, or what the reading of the steps tells.
-  abbrev answer_after : Before → Answer
-  answer_after (inl g) = An.Refused g.0
+  abbrev answer_after : Before → Result ℕ Refusal
+  answer_after (inl g) = Err g.0
   answer_after (inr clear) = bare (told certificate (reading image table certificate goal start))
 
-  abbrev pub answer_of : Answer
+  abbrev pub answer_of : Result ℕ Refusal
   answer_of = answer_after before
 
   pub answer-of : CheckAnswer image table certificate goal start answer_of

@@ -7,7 +7,6 @@
 --                                      the answer to the steps, in each arm of their reader's
 --     before-question, no_header, other-question, after-header
 --                                      which refusal is given, and its place
---     side-accepted, refusal-given     the same without the place
 use Prim.Native.Nat.{ℕ, ◌+◌, ◌*◌, ◌≤◌, ◌<◌}
 use native.Mathlib.Nat.{le_antisymm}
 use native.Mathlib.Omega.{arith}
@@ -39,7 +38,7 @@ use Rattle.format.proofs.RefusalLaws.{given-first, given-later, clear_both}
 use Rattle.format.proofs.Decision.{stable, length-fits?}
 use Rattle.format.proofs.ReadableLaws as ReadableLaws
 use Rattle.format.proofs.ReadableLaws.{of-setup, of_image, of-table, sizes, readable, ruled, goal-below, start-below}
-use Rattle.std.specs.Prelude.{Ok, Err}
+use Rattle.std.specs.Prelude.{Result, Ok, Err}
 use Rattle.rules.specs.Reading.{Progress}
 use Rattle.rules.specs.declared.Stop.{Stop}
 use Rattle.rules.proofs.Accepted.{ends-inside}
@@ -49,9 +48,8 @@ use Rattle.hand.specs.Setup.{Decoded, Prepared, most_entries}
 use Rattle.hand.proofs.SetupLaws.{all-sets}
 use Rattle.checker.specs.Reading.{Small, Lent, InHand, read_entry}
 use Rattle.checker.specs.Header.{side_of, header_conditions, HeaderFits, NamesQuestion}
-use Rattle.checker.specs.Check.{reading, step_conditions, outer_conditions, check_conditions, broke, Accepted, RefusedAt, CheckedAnswer, StepsAnswer}
-use Rattle.checker.specs.declared.answer.Checked.{Checked}
-use Rattle.checker.specs.declared.answer.Checked.TheVariants as Ch
+use Rattle.checker.specs.Check.{reading, step_conditions, outer_conditions, broke, fault_at, RefusedAt, CheckedAnswer, StepsAnswer}
+use Rattle.checker.specs.declared.answer.Fault.{Fault}
 use Rattle.hand.proofs.EnvironmentLaws.{start-env}
 
 -- ---- a setup that is not refused
@@ -132,13 +130,13 @@ module _ {image table : List ℕ} {goal start : ℕ} {q : Question} (read : Ques
 -- ---- the steps
 
 module _ (certificate : List ℕ) {p : Progress} where
-  pub missing : p ≡ Err Stop.Missing → StepsAnswer certificate p (Ch.Refused R.ByteMissing (length certificate))
+  pub missing : p ≡ Err Stop.Missing → StepsAnswer certificate p (Err (fault_at R.ByteMissing (length certificate)))
   missing e = (inl (refl, e), rw e)
 
-  pub wrong : {place : ℕ} → p ≡ Err (Stop.Wrong place) → StepsAnswer certificate p (Ch.Refused R.WrongCode place)
+  pub wrong : {place : ℕ} → p ≡ Err (Stop.Wrong place) → StepsAnswer certificate p (Err (fault_at R.WrongCode place))
   wrong {place} e = (inr (λ f. cc, inl (refl, (place, e))), rw e)
 
-  pub fails : {place : ℕ} → p ≡ Err (Stop.Fails place) → StepsAnswer certificate p (Ch.Refused R.ConditionFails place)
+  pub fails : {place : ℕ} → p ≡ Err (Stop.Fails place) → StepsAnswer certificate p (Err (fault_at R.ConditionFails place))
   fails {place} e = (inr (λ f. cc, inr (λ f. cc, inl (refl, (place, e)))), rw e)
 
   module _ {end : ℕ} (e : p ≡ Ok end) where
@@ -151,7 +149,7 @@ module _ (certificate : List ℕ) {p : Progress} where
     not-fails : (place : ℕ) × (p ≡ Err (Stop.Fails place)) → ⊥
     not-fails g = cc
 
-    pub remain : end < length certificate → StepsAnswer certificate p (Ch.Refused R.BytesRemain end)
+    pub remain : end < length certificate → StepsAnswer certificate p (Err (fault_at R.BytesRemain end))
     remain h = (inr (not-missing, inr (not-wrong, inr (not-fails, inl (refl, (end, e, h))))), rw e)
 
     -- Read to the certificate's end, nothing of the steps is refused.
@@ -172,7 +170,7 @@ module _ {image table : List ℕ} {goal start : ℕ} (clear : Clear (question_co
       (sided (side_of certificate) (tree_of image table goal)) (started start) certificate {at = 8} {end = end} long e
 
   pub whole : {end side : ℕ} → reading image table certificate goal start ≡ Ok end → length certificate ≤ end → side ≡ side_of certificate
-      → StepsAnswer certificate (reading image table certificate goal start) (Ch.Side side)
+      → StepsAnswer certificate (reading image table certificate goal start) (Ok side)
   whole e h f = (f, e ∙ ap Ok (le_antisymm (inside-certificate e) h))
 
 -- What `formula` answers, from the place after the header with the variables at the start, is the reading of the steps.
@@ -256,26 +254,15 @@ module _ (image table certificate : List ℕ) (goal start : ℕ) where
             clear_both (question_conditions image table goal start) (header_conditions certificate goal start) clear
             (λ f. f fits, (λ f. f names, tt))
 
-        pub after-header : (r : Checked) → StepsAnswer certificate p r → CheckedAnswer image table certificate goal start r
-        after-header (Ch.Side side) a = record { clear = before-clear; side_is = a.0; steps = a.1 }
-        after-header (Ch.Refused k place) a = record {
-          given = given-later (outer_conditions image table certificate goal start) (step_conditions certificate p) k before-clear a.0;
-          place_is = a.1 ∙ sym (ap (λ (b : Bool). pick b 0 (broke certificate p)) (late-number (step_conditions certificate p) k tt a.0));
+        pub after-header : (r : Result ℕ Fault) → StepsAnswer certificate p r → CheckedAnswer image table certificate goal start r
+        after-header (Ok side) a = record { clear = before-clear; side_is = a.0; steps = a.1 }
+        after-header (Err f) a = record {
+          given = given-later (outer_conditions image table certificate goal start) (step_conditions certificate p) f.refusal before-clear a.0;
+          place_is = a.1 ∙ sym (ap (λ (b : Bool). pick b 0 (broke certificate p)) (late-number (step_conditions certificate p) f.refusal tt a.0));
         }
 
 -- What is said of the steps of a question that was read, by its own goal and start, is said by those that were given.
-pub by-given : {image table : List ℕ} {goal start : ℕ} {q : Question} (certificate : List ℕ) (r : Checked) → QuestionRead image table goal start q
+pub by-given : {image table : List ℕ} {goal start : ℕ} {q : Question} (certificate : List ℕ) (r : Result ℕ Fault) → QuestionRead image table goal start q
     → StepsAnswer certificate (reading image table certificate q.goal q.start) r → StepsAnswer certificate (reading image table certificate goal start) r
 by-given {image} {table} certificate r read =
     subst₂ (λ (g s : ℕ). StepsAnswer certificate (reading image table certificate g s) r) (goal_is read) (start_is read)
-
--- ---- without the place
-
--- In each arm of the code's `match`: an accepted side, or a refusal without its place.
-module _ (image table certificate : List ℕ) (goal start : ℕ) {a : Checked} where
-  pub side-accepted : {side : ℕ} → a ≡ Ch.Side side → CheckedAnswer image table certificate goal start a → Accepted image table certificate goal start side
-  side-accepted e r = subst (CheckedAnswer image table certificate goal start) e r
-
-  pub refusal-given : {k : Refusal} {place : ℕ} → a ≡ Ch.Refused k place → CheckedAnswer image table certificate goal start a
-      → Given (check_conditions image table certificate goal start) k
-  refusal-given e r = let at = subst (CheckedAnswer image table certificate goal start) e r in at.given

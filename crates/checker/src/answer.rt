@@ -1,29 +1,28 @@
-// What a check answers, and its coding for callers in C.
+// What a check finds: the side that the certificate proves, or a fault.
 ghost use Rattle.std.specs.Prelude.{◌≡◌};
-ghost use Rattle.checker.specs.Check.{coded};
+ghost use Rattle.checker.specs.Check.{fault_at};
 
 use format::Refusal;
 
-// Accepted: the certificate proves this side.
+// The refusal that is given, and the place of the fault: in the steps, where they break; before them, 0.
 #[derive(Clone, Copy)]
-pub enum Answer {
-    Accepted(u8),
-    Refused(Refusal),
+pub(crate) struct Fault {
+    pub(crate) refusal: Refusal,
+    pub(crate) place: usize,
 }
 
-// The same with the place of the fault.
-#[derive(Clone, Copy)]
-pub(crate) enum Checked {
-    Side(u8),
-    Refused(Refusal, usize),
+impl From<Refusal> for Fault {
+    ghost from_gives = { λ k f. f ≡ fault_at k 0 };
+
+    fn from(refusal: Refusal) -> Fault {
+        Fault { refusal, place: 0 }
+    }
 }
 
-// The number of an answer: a refusal's own, 1 to 25; 128 for side 0 and 129 for side 1.
-pub fn code(answer: Answer) -> u64
-    ensures { result ≡ coded answer }
-{
-    match answer {
-        Answer::Accepted(side) => 128 + side as u64,
-        Answer::Refused(k) => u64::from(k),
+impl From<Fault> for Refusal {
+    ghost from_gives = { λ f k. k ≡ f.refusal };
+
+    fn from(f: Fault) -> Refusal {
+        f.refusal
     }
 }

@@ -2,7 +2,7 @@
 // knows how a certificate was found.
 #![tactic(auto)]
 
-pub mod answer;
+mod answer;
 mod header;
 mod steps;
 
@@ -10,7 +10,8 @@ ghost use Rattle.std.specs.Prelude.{◌≤◌, length};
 ghost use Rattle.format.specs.Answers.{QuestionRead};
 ghost use Rattle.checker.specs.Check.{reading, CheckAnswer, CheckedAnswer, StepsAnswer, CodedAnswer};
 
-use answer::{Answer, Checked};
+use answer::Fault;
+use format::answer::code;
 use format::question::Question;
 use format::{Refusal, byte, question};
 use hand::env::Env;
@@ -19,35 +20,40 @@ use hand::setup::Entry;
 use sets::Set;
 
 // The side that a certificate proves, or the first of the refusals 1 to 13, 20 to 25.
-pub fn check(image: &[u8], table: &[u8], certificate: &[u8], goal: u64, start: u64) -> Answer
+pub fn check(
+    image: &[u8],
+    table: &[u8],
+    certificate: &[u8],
+    goal: u64,
+    start: u64,
+) -> Result<u8, Refusal>
     ensures { CheckAnswer image.now table.now certificate.now goal start result }
 {
-    match checked(image, table, certificate, goal, start) {
-        Checked::Side(side) => Answer::Accepted(side),
-        Checked::Refused(k, _) => Answer::Refused(k),
-    }
+    Ok(checked(image, table, certificate, goal, start)?)
 }
 
-// The same with the place of the fault: in the steps, where they break; before them, 0.
-fn checked(image: &[u8], table: &[u8], certificate: &[u8], goal: u64, start: u64) -> Checked
+// The same with the place of the fault.
+fn checked(
+    image: &[u8],
+    table: &[u8],
+    certificate: &[u8],
+    goal: u64,
+    start: u64,
+) -> Result<u8, Fault>
     ensures { CheckedAnswer image.now table.now certificate.now goal start result }
 {
-    match question::read(image, table, goal, start) {
-        Err(k) => Checked::Refused(k, 0),
-        Ok(q) => {
-            if !header::fits(certificate) {
-                return Checked::Refused(Refusal::CertificateStart, 0);
-            }
-            if !header::names(certificate, goal, start) {
-                return Checked::Refused(Refusal::OtherQuestion, 0);
-            }
-            steps_of(image, table, certificate, q)
-        }
+    let q = question::read(image, table, goal, start)?;
+    if !header::fits(certificate) {
+        return Err(Refusal::CertificateStart.into());
     }
+    if !header::names(certificate, goal, start) {
+        return Err(Refusal::OtherQuestion.into());
+    }
+    steps_of(image, table, certificate, q)
 }
 
 // The same of a certificate whose header is right: variable 0 stands at the start, and the others, which the goal does not name, at stage 0.
-fn steps_of(image: &[u8], table: &[u8], certificate: &[u8], q: Question) -> Checked
+fn steps_of(image: &[u8], table: &[u8], certificate: &[u8], q: Question) -> Result<u8, Fault>
     requires { QuestionRead image.now table.now q.goal q.start q × (8 ≤ length certificate.now) }
     ensures { StepsAnswer certificate.now
         (reading image.now table.now certificate.now q.goal q.start) result }
@@ -74,23 +80,35 @@ fn steps_of(image: &[u8], table: &[u8], certificate: &[u8], q: Question) -> Chec
     );
     let size = certificate.len();
     if end < size {
-        return Checked::Refused(Refusal::BytesRemain, end);
+        return Err(Fault {
+            refusal: Refusal::BytesRemain,
+            place: end,
+        });
     }
     if end == size {
-        return Checked::Side(side);
+        return Ok(side);
     }
     if end == size + 1 {
-        return Checked::Refused(Refusal::ByteMissing, size);
+        return Err(Fault {
+            refusal: Refusal::ByteMissing,
+            place: size,
+        });
     }
     if end == size + 2 {
-        return Checked::Refused(Refusal::WrongCode, fault);
+        return Err(Fault {
+            refusal: Refusal::WrongCode,
+            place: fault,
+        });
     }
-    Checked::Refused(Refusal::ConditionFails, fault)
+    Err(Fault {
+        refusal: Refusal::ConditionFails,
+        place: fault,
+    })
 }
 
-// The check for callers in C, as one number: `answer::code` says which.
+// The check for callers in C, as one number: `format::answer::code` says which.
 pub fn zseq_check(image: &[u8], table: &[u8], certificate: &[u8], goal: u64, start: u64) -> u64
     ensures { CodedAnswer image.now table.now certificate.now goal start result }
 {
-    answer::code(check(image, table, certificate, goal, start))
+    code(check(image, table, certificate, goal, start))
 }

@@ -1,4 +1,4 @@
--- From the set of EU(true, fired) to the dead ends, and from the image's reader to the report.
+-- From the set of EU(true, fired) to the dead ends.
 --
 --     Able, never-able              EU(true, fired); no path reaches predicate 0 exactly when it does not hold
 --     able-test                     the rounds that test it
@@ -6,19 +6,15 @@
 --     listed-dead, listed-many      the set that the code lists, and that its number of stages fits a byte
 --     clear-image, all-stages, clear-row
 --                                   an image that the report does not refuse, its stages, and the row that is decoded of it
---     report-first                  a refusal of the image is one of the report
---     report-nothing, report-clear, report-stages
---                                   an image that was read is refused with 15, or not at all; its number of stages
---     coded-report                  the number of a report and the lent buffer
 --
 -- Assumes nothing.
-use Prim.Native.Nat.{ℕ, ◌-◌, ◌*◌, ◌^◌, ◌≤◌, ◌<◌, min}
+use Prim.Native.Nat.{ℕ, ◌-◌, ◌^◌, ◌≤◌, ◌<◌, min}
 use native.Mathlib.Omega.{arith}
-use mathlib.Core.Path.{◌≡◌, refl, sym, ap, subst}
+use mathlib.Core.Path.{◌≡◌, sym, subst}
 use mathlib.Core.Bool.{Bool}
 use mathlib.Core.List.{List}
 use mathlib.Core.Logic.Iff
-use mathlib.Core.Logic.{◌↔◌, inl}
+use mathlib.Core.Logic.{◌↔◌}
 use lib.Bits.{bit_and}
 use lib.Count.{ones, ones-le}
 use lib.Dec.{T}
@@ -34,19 +30,13 @@ use Rattle.sets.proofs.LawsMember.{has-test, has-minus}
 use Rattle.modal.specs.Row.{member, Row, Computes}
 use Rattle.modal.specs.Modal.{eu_of}
 use Rattle.modal.proofs.LawsMember.{below, has_all, inside-all}
-use Rattle.format.specs.Refusal.{Given, Clear}
+use Rattle.format.specs.Refusal.{Clear}
 use Rattle.format.specs.Image.{stages_of, first_set, set_of, graph_of, image_conditions}
-use Rattle.format.specs.Answers.{ImageRead}
-use Rattle.format.specs.declared.Refusal.{Refusal}
-use Rattle.format.specs.declared.Refusal.TheVariants as R
-use Rattle.format.specs.declared.image.Shape.{Shape}
-use Rattle.format.proofs.RefusalLaws.{given-first, given-later, clear_both, clear_first}
+use Rattle.format.proofs.RefusalLaws.{clear_first}
 use Rattle.format.proofs.ReadableLaws.{sizes, readable}
 use Rattle.hand.specs.Setup.{Decoded}
 use Rattle.verdict.proofs.DecodeLaws.{decoded-row}
-use Rattle.deadends.specs.DeadEnd.{Fired, DeadEndsOf, NothingFires, fired_conditions, report_conditions}
-use Rattle.deadends.specs.Report.{ReportAnswer, coded, Lent, CodedReport}
-use Rattle.deadends.specs.declared.answer.Report.{Report}
+use Rattle.deadends.specs.DeadEnd.{Fired, DeadEndsOf, fired_conditions, report_conditions}
 
 -- ---- paths
 
@@ -118,27 +108,3 @@ module _ {image : List ℕ} (clear : Clear (report_conditions image)) where
 -- The number of stages in a set fits a byte.
 pub listed-many : (s c : ℕ) → s < 2 ^ width → c ≡ ones s → c < 256
 listed-many s c h e = omega (arith, ones-le width s h)
-
--- ---- the reader of the image
-
--- A refusal of the image comes before 15.
-pub report-first : {image : List ℕ} {k : Refusal} → Given (image_conditions image) k → Given (report_conditions image) k
-report-first {image} {k} g = given-first (image_conditions image) (fired_conditions image) k g
-
--- An image that was read is refused with 15 where nothing fires, and else not at all.
-module _ {image : List ℕ} {shape : Shape} (read : ImageRead image shape) where
-  pub report-nothing : NothingFires image → Given (report_conditions image) R.NothingFires
-  report-nothing h = given-later (image_conditions image) (fired_conditions image) R.NothingFires read.clear (inl (refl, h))
-
-  pub report-clear : (NothingFires image → ⊥) → Clear (report_conditions image)
-  report-clear f = clear_both (image_conditions image) (fired_conditions image) read.clear (f, tt)
-
-  pub report-stages : shape.stages ≡ stages_of image
-  report-stages = ap (λ (k : Shape). k.stages) read.is
-
--- ---- callers in C
-
--- In each arm of the code's `match`: the number and the buffer of the arm's report.
-pub coded-report : (image before after : List ℕ) {a r : Report} {c : ℕ} → ReportAnswer image a → a ≡ r → c ≡ coded r → Lent r before after
-    → CodedReport image before c after
-coded-report image before after {r = r} p e f l = record { report = r; answer = subst (ReportAnswer image) e p; code = f; buffer = l }

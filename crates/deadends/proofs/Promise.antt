@@ -14,7 +14,7 @@
 use Prim.Native.Nat.{ℕ, ◌+◌, ◌^◌, ◌≤◌, ◌<◌}
 use native.Mathlib.Nat.{lt_of_lt_of_le}
 use native.Mathlib.Omega.{arith}
-use mathlib.Core.Path.{◌≡◌, refl, sym, ap, ap₂, ◌∙◌, subst}
+use mathlib.Core.Path.{◌≡◌, refl, sym, ap, ◌∙◌, subst}
 use mathlib.Core.List.{List}
 use mathlib.Core.Logic.Iff
 use mathlib.Core.Logic.{◌↔◌, ⊎_elim}
@@ -22,9 +22,9 @@ use lib.Count.{ones}
 use lib.ListN.{length, drop}
 use lib.Pow.{pow_mono}
 use Rattle.model.specs.Formula.{Env}
+use Rattle.std.specs.Prelude.{Result, Ok, Err}
 use Rattle.logic.specs.Meaning.{Path, Holds}
 use Rattle.logic.proofs.Paths.{some-path}
-use Rattle.sets.specs.declared.Set.{Set}
 use Rattle.sets.specs.Member.{bit, Has}
 use Rattle.sets.specs.Number.{number, width, size, stored}
 use Rattle.sets.proofs.LawsMember.{side?, within-antisym, below-lt}
@@ -38,8 +38,7 @@ use Rattle.format.proofs.RefusalLaws.{given-one, clear_none, number-injective, n
 use Rattle.format.proofs.ReadableLaws.{sizes, readable}
 use Rattle.deadends.specs.DeadEnd.{Fired, can_fire, report_conditions}
 use Rattle.deadends.specs.Report.{Listed, ReportAnswer, coded, Lent, CodedReport}
-use Rattle.deadends.specs.declared.answer.Report.{Report}
-use Rattle.deadends.specs.declared.answer.Report.TheVariants as Re
+use Rattle.deadends.specs.declared.answer.DeadEnds.{DeadEnds}
 use Rattle.sets.proofs.LawsStored.{front-once, stored_back}
 use Rattle.deadends.proofs.DeadEndLaws.{Able, never-able, clear-image}
 
@@ -83,51 +82,52 @@ module _ (image : List ℕ) where
   listed_same {a} {b} p q = within-antisym a b (λ s h. (q.dead s).1 ((p.dead s).0 h)) (λ s h. (p.dead s).1 ((q.dead s).0 h))
 
   -- Two answers to one image are one.
-  pub report-once : (r s : Report) → ReportAnswer image r → ReportAnswer image s → r ≡ s
-  report-once (Re.DeadEnds a m) (Re.DeadEnds b n) p q =
+  pub report-once : (r s : Result DeadEnds Refusal) → ReportAnswer image r → ReportAnswer image s → r ≡ s
+  report-once (Ok a) (Ok b) p q =
       let e = listed_same p q in
-      ap₂ Re.DeadEnds (set_same a b e) (p.many ∙ ap ones e ∙ sym q.many)
-  report-once (Re.DeadEnds a m) (Re.Refused k) p q = absurd (clear_none (report_conditions image) k p.clear q)
-  report-once (Re.Refused j) (Re.DeadEnds b n) p q = absurd (clear_none (report_conditions image) j q.clear p)
-  report-once (Re.Refused j) (Re.Refused k) p q = ap Re.Refused (given-one (report_conditions image) j k p q)
+      let set = set_same a.set b.set e in
+      let count : a.count ≡ b.count = p.many ∙ ap ones e ∙ sym q.many in
+      λ i. Ok (record { set = set i; count = count i })
+  report-once (Ok a) (Err k) p q = absurd (clear_none (report_conditions image) k p.clear q)
+  report-once (Err j) (Ok b) p q = absurd (clear_none (report_conditions image) j q.clear p)
+  report-once (Err j) (Err k) p q = ap Err (given-one (report_conditions image) j k p q)
 
   -- A refusal comes exactly when document 01 gives it,
-  pub refused-exactly : (r : Report) (k : Refusal) → ReportAnswer image r → (r ≡ Re.Refused k) ↔ Given (report_conditions image) k
-  refused-exactly r k p = (λ e. subst (ReportAnswer image) e p, λ g. report-once r (Re.Refused k) p g)
+  pub refused-exactly : (r : Result DeadEnds Refusal) (k : Refusal) → ReportAnswer image r → (r ≡ Err k) ↔ Given (report_conditions image) k
+  refused-exactly r k p = (λ e. subst (ReportAnswer image) e p, λ g. report-once r (Err k) p g)
 
   -- and a list exactly when nothing is refused.
-  pub listed-exactly : (r : Report) → ReportAnswer image r → ((set : Set) × (count : ℕ) × (r ≡ Re.DeadEnds set count)) ↔ Clear (report_conditions image)
-  listed-exactly r p = (λ e. clear e.0 e.1 (subst (ReportAnswer image) e.2 p), listed r p)
+  pub listed-exactly : (r : Result DeadEnds Refusal) → ReportAnswer image r → ((d : DeadEnds) × (r ≡ Ok d)) ↔ Clear (report_conditions image)
+  listed-exactly r p = (λ e. let l : Listed image (number e.0.set) e.0.count = subst (ReportAnswer image) e.1 p in l.clear, listed r p)
     where
-      clear : (set : Set) (count : ℕ) → Listed image (number set) count → Clear (report_conditions image)
-      clear set count l = l.clear
-
-      listed : (s : Report) → ReportAnswer image s → Clear (report_conditions image) → (set : Set) × (count : ℕ) × (s ≡ Re.DeadEnds set count)
-      listed (Re.DeadEnds set count) q c = (set, count, refl)
-      listed (Re.Refused k) q c = absurd (clear_none (report_conditions image) k c q)
+      listed : (s : Result DeadEnds Refusal) → ReportAnswer image s → Clear (report_conditions image) → (d : DeadEnds) × (s ≡ Ok d)
+      listed (Ok d) q c = (d, refl)
+      listed (Err k) q c = absurd (clear_none (report_conditions image) k c q)
 
 -- ---- the coding for callers in C
 
 -- From the number and the buffer the report is told, whatever the images, where the buffer has room for a set: no refusal has the number of a list.
-pub coded-injective : (i j before after : List ℕ) → size ≤ length before → (r s : Report) → ReportAnswer i r → ReportAnswer j s
+pub coded-injective : (i j before after : List ℕ) → size ≤ length before → (r s : Result DeadEnds Refusal) → ReportAnswer i r → ReportAnswer j s
     → coded r ≡ coded s → Lent r before after → Lent s before after → r ≡ s
-coded-injective i j before after room (Re.DeadEnds a m) (Re.DeadEnds b n) p q e f g =
-    ap₂ Re.DeadEnds (set_same a b (sym (stored_back (listed-fits p) room f) ∙ stored_back (listed-fits q) room g)) (omega arith)
-coded-injective i j before after room (Re.DeadEnds a m) (Re.Refused k) p q e f g = absurd (omega (arith, number_small k))
-coded-injective i j before after room (Re.Refused k) (Re.DeadEnds b n) p q e f g = absurd (omega (arith, number_small k))
-coded-injective i j before after room (Re.Refused k) (Re.Refused l) p q e f g = ap Re.Refused (number-injective k l e)
+coded-injective i j before after room (Ok a) (Ok b) p q e f g =
+    let set = set_same a.set b.set (sym (stored_back (listed-fits p) room f) ∙ stored_back (listed-fits q) room g) in
+    let count : a.count ≡ b.count = omega (arith, e) in
+    λ i. Ok (record { set = set i; count = count i })
+coded-injective i j before after room (Ok a) (Err k) p q e f g = absurd (omega (arith, e, number_small k))
+coded-injective i j before after room (Err k) (Ok b) p q e f g = absurd (omega (arith, e, number_small k))
+coded-injective i j before after room (Err k) (Err l) p q e f g = ap Err (number-injective k l e)
 
 -- Two buffers after one report are one.
-lent-once : (r : Report) (before a b : List ℕ) → Lent r before a → Lent r before b → a ≡ b
-lent-once (Re.DeadEnds set count) before a b p q = front-once p q
-lent-once (Re.Refused k) before a b p q = p ∙ sym q
+lent-once : (r : Result DeadEnds Refusal) (before a b : List ℕ) → Lent r before a → Lent r before b → a ≡ b
+lent-once (Ok d) before a b p q = front-once p q
+lent-once (Err k) before a b p q = p ∙ sym q
 
 -- Two numbers that meet the contract of the exported function are one, and so are the buffers.
 pub code-once : (image before : List ℕ) (m n : ℕ) (a b : List ℕ) → CodedReport image before m a → CodedReport image before n b → (m ≡ n) × (a ≡ b)
 code-once image before m n a b p q =
     let e = report-once image p.report q.report p.answer q.answer in (
       p.code ∙ ap coded e ∙ sym q.code,
-      lent-once q.report before a b (subst (λ (r : Report). Lent r before a) e p.buffer) q.buffer,
+      lent-once q.report before a b (subst (λ (r : Result DeadEnds Refusal). Lent r before a) e p.buffer) q.buffer,
     )
 
 module _ {image before after : List ℕ} {m : ℕ} (p : CodedReport image before m after) where
@@ -138,37 +138,37 @@ module _ {image before after : List ℕ} {m : ℕ} (p : CodedReport image before
     λ g. p.code ∙ ap coded ((refused-exactly image p.report k p.answer).1 g),
   )
     where
-      told : (r : Report) → ReportAnswer image r → coded r ≡ refusal k → Given (report_conditions image) k
-      told (Re.DeadEnds set count) q e = absurd (omega (arith, number_small k))
-      told (Re.Refused j) q e = subst (Given (report_conditions image)) (number-injective j k e) q
+      told : (r : Result DeadEnds Refusal) → ReportAnswer image r → coded r ≡ refusal k → Given (report_conditions image) k
+      told (Ok d) q e = absurd (omega (arith, number_small k))
+      told (Err j) q e = subst (Given (report_conditions image)) (number-injective j k e) q
 
   -- and then the buffer is as it was.
   pub code-kept : (k : Refusal) → Given (report_conditions image) k → after ≡ before
-  code-kept k g = subst (λ (r : Report). Lent r before after) ((refused-exactly image p.report k p.answer).1 g) p.buffer
+  code-kept k g = subst (λ (r : Result DeadEnds Refusal). Lent r before after) ((refused-exactly image p.report k p.answer).1 g) p.buffer
 
   -- Where nothing is refused, the number is 128 and the count of the dead ends, and a buffer that has room holds their set.
   pub code-listed : Clear (report_conditions image)
       → (set : ℕ) × (count : ℕ) × Listed image set count × (m ≡ 128 + count) × (size ≤ length before → stored after 0 ≡ set)
   code-listed clear = told p.report p.answer p.code p.buffer
     where
-      told : (r : Report) → ReportAnswer image r → m ≡ coded r → Lent r before after
+      told : (r : Result DeadEnds Refusal) → ReportAnswer image r → m ≡ coded r → Lent r before after
           → (set : ℕ) × (count : ℕ) × Listed image set count × (m ≡ 128 + count) × (size ≤ length before → stored after 0 ≡ set)
-      told (Re.DeadEnds set count) q e f = (number set, count, q, e, λ room. stored_back (listed-fits q) room f)
-      told (Re.Refused k) q e f = absurd (clear_none (report_conditions image) k clear q)
+      told (Ok d) q e f = (number d.set, d.count, q, e, λ room. stored_back (listed-fits q) room f)
+      told (Err k) q e f = absurd (clear_none (report_conditions image) k clear q)
 
   -- A buffer that has no room for a set is always as it was,
   pub code-short : length before < size → after ≡ before
   code-short h = told p.report p.buffer
     where
-      told : (r : Report) → Lent r before after → after ≡ before
-      told (Re.DeadEnds set count) f = f.none h
-      told (Re.Refused k) f = f
+      told : (r : Result DeadEnds Refusal) → Lent r before after → after ≡ before
+      told (Ok d) f = f.none h
+      told (Err k) f = f
 
   -- and so is what stands past the set in any buffer.
   pub code-rest : drop size after ≡ drop size before
   code-rest = told p.report p.buffer
     where
-      told : (r : Report) → Lent r before after → drop size after ≡ drop size before
-      told (Re.DeadEnds set count) f =
+      told : (r : Result DeadEnds Refusal) → Lent r before after → drop size after ≡ drop size before
+      told (Ok d) f =
           ⊎_elim (λ h. ap (drop size) (f.none h)) (λ h. ap (drop size) (f.room h)) (side? (length before) size)
-      told (Re.Refused k) f = ap (drop size) f
+      told (Err k) f = ap (drop size) f

@@ -6,70 +6,55 @@
 
 pub mod answer;
 
-ghost use Rattle.std.specs.Prelude.{◌≡◌, min};
+ghost use Rattle.std.specs.Prelude.{◌≡◌};
 ghost use Rattle.model.specs.Decides.{Decides};
-ghost use Rattle.sets.specs.Number.{width};
+ghost use Rattle.sets.specs.Number.{number};
 ghost use Rattle.format.specs.Refusal.{Clear};
 ghost use Rattle.format.specs.Image.{stages_of};
 ghost use Rattle.deadends.specs.DeadEnd.{NothingFires, report_conditions};
-ghost use Rattle.deadends.specs.Report.{ReportAnswer, CodedReport};
+ghost use Rattle.deadends.specs.Report.{Listed, ReportAnswer, CodedReport};
 
-use answer::Report;
+use answer::DeadEnds;
+use format::answer::code;
 use format::{Refusal, byte, image};
 use hand::setup;
 use sets::Set;
 
 // The set of the dead ends with their number, or the first of the refusals 1 to 5 and 15.
-pub fn report(image: &[u8]) -> Report
+pub fn report(image: &[u8]) -> Result<DeadEnds, Refusal>
     ensures { ReportAnswer image.now result }
 {
-    match image::read(image) {
-        Err(k) => Report::Refused(k),
-        Ok(shape) => {
-            if nothing_fires(image) {
-                Report::Refused(Refusal::NothingFires)
-            } else {
-                listed(image, shape.stages)
-            }
-        }
+    let shape = image::read(image)?;
+    if nothing_fires(image) {
+        return Err(Refusal::NothingFires);
     }
+    Ok(listed(image, shape.stages))
 }
 
 // Whether predicate 0 is missing or not of arity 1.
 fn nothing_fires(image: &[u8]) -> bool
     ensures { Decides result (NothingFires image.now) }
 {
-    let p = byte(image, 6);
-    if p == 0 {
-        return true;
-    }
-    let arity = byte(image, 7);
-    if arity != 1 {
-        return true;
-    }
-    false
-}
-
-// n, or the width where n is more. An image has no more stages than that; where the code says so itself, the loops over a row need no test for room.
-fn within_width(n: usize) -> usize
-    ensures { result ≡ min n width }
-{
-    if n < sets::WIDTH { n } else { sets::WIDTH }
+    byte(image, 6) == 0 || byte(image, 7) != 1
 }
 
 // The report on an image that nothing refuses: all stages less those from which some path comes to a stage of predicate 0.
-fn listed(image: &[u8], n: usize) -> Report
+fn listed(image: &[u8], n: usize) -> DeadEnds
     requires { Clear (report_conditions image.now) × (n ≡ stages_of image.now) }
-    ensures { ReportAnswer image.now result }
+    ensures { Listed image.now (number result.set) result.count }
 {
-    let stages = within_width(n);
+    // An image has no more stages than the width; where the code says so itself, the loops over a row need no test for room.
+    let stages = n.min(sets::WIDTH);
     let mut next = [Set::empty(); setup::NEXT];
     setup::decode(image, stages, &mut next);
     let fired = image::set(image, image::first_set(image, 0));
     let all = Set::below(stages);
     let able = modal::eu(&next, stages, all, fired);
     let dead = all.minus(able);
-    Report::DeadEnds(dead, dead.count() as u8)
+    DeadEnds {
+        set: dead,
+        count: dead.count() as u8,
+    }
 }
 
 // The report for callers in C. Its number comes back: a refusal's own, or 128 and the number of dead ends. The set is stored at the front of the
@@ -77,11 +62,9 @@ fn listed(image: &[u8], n: usize) -> Report
 pub fn zseq_dead_ends(image: &[u8], set: &mut [u8]) -> u64
     ensures { CodedReport image.now set.old result set.new }
 {
-    match report(image) {
-        Report::Refused(k) => answer::code(Report::Refused(k)),
-        Report::DeadEnds(dead, count) => {
-            sets::stored::write(set, dead);
-            answer::code(Report::DeadEnds(dead, count))
-        }
+    let report = report(image);
+    if let Ok(dead) = report {
+        sets::stored::write(set, dead.set);
     }
+    code(report)
 }

@@ -11,7 +11,7 @@ use mathlib.Core.List.{List, ◌++◌}
 use mathlib.Core.Logic.{⊎_elim}
 use lib.Dec.{lit≤}
 use lib.ListN.{length, drop, replicate, length-replicate}
-use Rattle.std.specs.Prelude.{Option, Some, None}
+use Rattle.std.specs.Prelude.{Option, Some, None, Ok}
 use Rattle.sets.proofs.LawsMember.{side?}
 use Rattle.format.specs.Example.{example_image, example_table}
 use Rattle.format.proofs.Example as format
@@ -20,10 +20,8 @@ use Rattle.verdict.specs.declared.answer.Verdict.TheVariants as Verdict
 use Rattle.verdict.proofs.Example as deciding
 use Rattle.checker.specs.Check.{CodedAnswer}
 use Rattle.checker.specs.Certificate.{Derivation, Bytes}
-use Rattle.checker.specs.declared.answer.Answer.TheVariants as Check
 use Rattle.checker.proofs.Example as checking
-use Rattle.writer.specs.Write.{WriteAnswer}
-use Rattle.writer.specs.declared.answer.Answer.TheVariants as Write
+use Rattle.writer.specs.Write.{WriteAnswer, written_as}
 use Rattle.writer.proofs.Example as writing
 use Rattle.line.specs.Framing.{framed}
 use Rattle.line.specs.Line.{certificate_buffer, longest, Printed}
@@ -67,15 +65,15 @@ both-sides =
 
 -- A verdict is yes and one is no, a certificate is written, and the exported function has a number to give.
 pub answers-there :
-    VerdictAnswer example_image example_table 2 0 Verdict.Yes × VerdictAnswer example_image example_table 4 0 Verdict.No
-    × ((before after : List ℕ) × WriteAnswer example_image example_table 2 0 before after (Write.Written 0 16))
+    VerdictAnswer example_image example_table 2 0 (Ok Verdict.Yes) × VerdictAnswer example_image example_table 4 0 (Ok Verdict.No)
+    × ((before after : List ℕ) × WriteAnswer example_image example_table 2 0 before after (Ok (written_as 0 16)))
     × ((certificate : List ℕ) × CodedAnswer example_image example_table certificate 2 0 128)
 unfolding checking.cases writing.cases
 answers-there = (
   (deciding.example).0,
   (deciding.example).1,
   (_, _, (writing.marked).0),
-  (_, record { answer = Check.Accepted 0; says = (checking.marked).0; code = refl }),
+  (_, record { answer = Ok 0; says = (checking.marked).0; code = refl }),
 )
 
 -- The program's input for the first question is such a row,

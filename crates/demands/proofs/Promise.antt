@@ -17,11 +17,12 @@ use Rattle.written.proofs.Derivation.{written_ours}
 use Rattle.checker.specs.Header.{header_of}
 use Rattle.checker.specs.Check.{CheckAnswer}
 use Rattle.checker.specs.Certificate.{Certifies, certificate_of}
-use Rattle.checker.specs.declared.answer.Answer.TheVariants as Check
 use Rattle.checker.proofs.CertificateLaws.{asked-readable, asked-below, asked-stands, certificate-bytes}
 use Rattle.checker.proofs.Promise.{check-answers, check-once, accepted-holds, accepted-exactly, one_side, not-both-sides}
+use Rattle.std.specs.Prelude.{Result, Ok}
+use Rattle.format.specs.declared.Refusal.{Refusal}
 use Rattle.writer.specs.Write.{certificate, side_for, WriteAnswer}
-use Rattle.writer.specs.declared.answer.Answer.{Answer as Writing}
+use Rattle.writer.specs.declared.answer.Written.{Written}
 use Rattle.writer.proofs.Promise.{write-answers, write-once, side-holds, side-exactly, certificate-accepted}
 use Rattle.deadends.proofs.Promise.{report-once}
 use Rattle.reply.proofs.Promise.{line-there, reply-whole}
@@ -46,7 +47,7 @@ demand-1 image table bytes goal start buffer input = record {
   prints = λ after out printed r a h room. let whole = reply-whole h room a in (a.line, a.answers, whole.1, whole.2);
 }
   where
-    same : (v w : Left Writing) → WriteAnswer image table goal start buffer v.buffer v.answer
+    same : (v w : Left (Result Written Refusal)) → WriteAnswer image table goal start buffer v.buffer v.answer
         → WriteAnswer image table goal start buffer w.buffer w.answer → v ≡ w
     same v w p q =
         let e = write-once image table goal start buffer v.buffer w.buffer v.answer w.answer p q in
@@ -92,9 +93,9 @@ module _ (image table : List ℕ) (goal start : ℕ) (clear : Asked image table 
 
   -- Where the question is not refused, the checker accepts exactly the certificates of derivations.
   exactly : (bytes : List ℕ) (side : ℕ) → side ≤ 1
-      → CheckAnswer image table bytes goal start (Check.Accepted side) ↔ Certifies image table goal start side bytes
+      → CheckAnswer image table bytes goal start (Ok side) ↔ Certifies image table goal start side bytes
   exactly bytes side h = (
-    λ a. (accepted-exactly image table bytes goal start clear (Check.Accepted side) a side h).0 refl,
+    λ a. (accepted-exactly image table bytes goal start clear (Ok side) a side h).0 refl,
     λ c.
         let r = check-answers image table bytes goal start in
         subst (CheckAnswer image table bytes goal start) ((accepted-exactly image table bytes goal start clear r.0 r.1 side h).1 c) r.1,

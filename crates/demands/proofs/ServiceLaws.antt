@@ -21,7 +21,7 @@ use lib.Bits.{bit_or}
 use lib.Count.{ones}
 use lib.Dec.{T, eqb, ltb, lit<}
 use lib.ListN.{length, drop}
-use Rattle.std.specs.Prelude.{Some}
+use Rattle.std.specs.Prelude.{Some, Result, Ok, Err}
 use Rattle.logic.specs.Test.{eu}
 use Rattle.logic.proofs.Booleans.{T_and, differ}
 use Rattle.logic.proofs.Duality.{holds-or-dual}
@@ -44,13 +44,11 @@ use Rattle.verdict.specs.Verdict.{VerdictAnswer}
 use Rattle.verdict.specs.declared.answer.Verdict.{Verdict}
 use Rattle.checker.specs.Check.{reading, outer_conditions, step_conditions, CheckAnswer, coded, CodedAnswer}
 use Rattle.checker.specs.Certificate.{Bytes}
-use Rattle.checker.specs.declared.answer.Answer.{Answer}
-use Rattle.checker.specs.declared.answer.Answer.TheVariants as Check
 use Rattle.checker.proofs.CertificateLaws.{asked-readable, asked-below, asked-stands}
 use Rattle.checker.proofs.Promise.{check-answers, check-once, coded-injective, check-refused, given-22, given-23, given-24, given-25}
 use Rattle.deadends.specs.DeadEnd.{fired_conditions, report_conditions}
 use Rattle.deadends.specs.Report.{ReportAnswer}
-use Rattle.deadends.specs.declared.answer.Report.{Report}
+use Rattle.deadends.specs.declared.answer.DeadEnds.{DeadEnds}
 use Rattle.deadends.proofs.DeadEndLaws.{Able, able-test, dead-unless, clear-image}
 use Rattle.line.specs.Line.{refusal_line, Printed}
 use Rattle.reply.specs.Reply.{Answers}
@@ -130,16 +128,16 @@ module _ (P : Refusal → Type 0) (once : (j k : Refusal) → P j → P k → j 
 -- ---- the verdict
 
 -- Every question has a verdict: nothing is refused, and the goal holds or its dual does; or a refusal is given.
-pub some-verdict : (image table : List ℕ) (goal start : ℕ) → (r : Verdict) × VerdictAnswer image table goal start r
+pub some-verdict : (image table : List ℕ) (goal start : ℕ) → (r : Result Verdict Refusal) × VerdictAnswer image table goal start r
 some-verdict image table goal start = by (outcome (question_conditions image table goal start) (question-decided image table goal start))
   where
     by : ((k : Refusal) × Given (question_conditions image table goal start) k) ⊎ Clear (question_conditions image table goal start)
-        → (r : Verdict) × VerdictAnswer image table goal start r
-    by (inl g) = (Verdict.Refused g.0, g.1)
+        → (r : Result Verdict Refusal) × VerdictAnswer image table goal start r
+    by (inl g) = (Err g.0, g.1)
     by (inr clear) =
         ⊎_elim
-        (λ h. (Verdict.Yes, record { clear = clear; says = h }))
-        (λ h. (Verdict.No, record { clear = clear; says = h }))
+        (λ h. (Ok Verdict.Yes, record { clear = clear; says = h }))
+        (λ h. (Ok Verdict.No, record { clear = clear; says = h }))
         (holds-or-dual (asked-readable image table goal start clear) (tree_of image table goal) (started start)
         (asked-below image table goal start clear 0) (asked-stands image table goal start clear))
 
@@ -173,22 +171,22 @@ T? true = yes tt
 T? false = no (λ t. t)
 
 -- Every image has a report: nothing is refused, and the dead ends are gathered; or a refusal is given.
-pub some-report : (image : List ℕ) → (r : Report) × ReportAnswer image r
+pub some-report : (image : List ℕ) → (r : Result DeadEnds Refusal) × ReportAnswer image r
 unfolding set_number
 some-report image = by (outcome (report_conditions image) decided)
   where
     decided : Decided (report_conditions image)
     decided = decided-both (image_conditions image) (fired_conditions image) (image-decided image) (either? (eq? _ 0) (not? (eq? _ 1)), tt)
 
-    by : ((k : Refusal) × Given (report_conditions image) k) ⊎ Clear (report_conditions image) → (r : Report) × ReportAnswer image r
-    by (inl g) = (Report.Refused g.0, g.1)
+    by : ((k : Refusal) × Given (report_conditions image) k) ⊎ Clear (report_conditions image) → (r : Result DeadEnds Refusal) × ReportAnswer image r
+    by (inl g) = (Err g.0, g.1)
     by (inr clear) =
         let G = graph_of image in
         let able? : (s : ℕ) → s < stages_of image → Dec (Able G s → ⊥) = λ s h.
         let says = able-test (readable image (clear-image clear)) (λ t. true) (G.one 0) (λ t i. tt) (λ t i. Iff.rfl) s h in
         not? (same-as says.0 says.1 (T? (eu G (λ t. true) (G.one 0) s))) in
         let g = gathered (λ s. Able G s → ⊥) (stages_of image) able? in
-        (Report.DeadEnds (record { bits = g.0 }) (ones g.0), record { clear = clear; dead = dead-unless G g.0 g.1; many = refl })
+        (Ok (record { set = record { bits = g.0 }; count = ones g.0 }), record { clear = clear; dead = dead-unless G g.0 g.1; many = refl })
 
 -- ---- checking
 
@@ -199,9 +197,9 @@ module _ (image table certificate : List ℕ) (goal start : ℕ) where
   abbrev inner : List Condition
   inner = step_conditions certificate (reading image table certificate goal start)
 
-  module _ (r : Answer) (p : CheckAnswer image table certificate goal start r) (clear : Clear outer) where
+  module _ (r : Result ℕ Refusal) (p : CheckAnswer image table certificate goal start r) (clear : Clear outer) where
     -- Where neither the question nor the header is refused, each of 22 to 25 is the answer exactly when its condition holds.
-    each_step : Each (λ j A. (r ≡ Check.Refused j) ↔ A) (step_refusals image table certificate goal start)
+    each_step : Each (λ j A. (r ≡ Err j) ↔ A) (step_refusals image table certificate goal start)
     each_step = (
       given-22 image table certificate goal start clear r p,
       (
@@ -211,37 +209,37 @@ module _ (image table certificate : List ℕ) (goal start : ℕ) where
     )
 
   -- Each of them says so of its own refusal.
-  told-by : (r : Answer) (cs : List Condition) → Each (λ j A. (r ≡ Check.Refused j) ↔ A) cs → Each (λ j A. A → r ≡ Check.Refused j) cs
+  told-by : (r : Result ℕ Refusal) (cs : List Condition) → Each (λ j A. (r ≡ Err j) ↔ A) cs → Each (λ j A. A → r ≡ Err j) cs
   told-by r [] each = tt
   told-by r (c ∷ cs) each = (each.0.1, told-by r cs each.1)
 
   -- What the contract of `check` gives, by how far the steps are read, is what is given by derivations and bytes.
   pub check-given : (k : Refusal)
-      → CheckAnswer image table certificate goal start (Check.Refused k) ↔ Given (check_refusals image table certificate goal start) k
+      → CheckAnswer image table certificate goal start (Err k) ↔ Given (check_refusals image table certificate goal start) k
   check-given k = (to, from)
     where
       steps : List Condition
       steps = step_refusals image table certificate goal start
 
-      named : {r : Answer} (cs : List Condition) → Each (λ j A. (r ≡ Check.Refused j) ↔ A) cs → r ≡ Check.Refused k → Each (λ j A. (k ≡ j) ↔ A) cs
+      named : {r : Result ℕ Refusal} (cs : List Condition) → Each (λ j A. (r ≡ Err j) ↔ A) cs → r ≡ Err k → Each (λ j A. (k ≡ j) ↔ A) cs
       named [] each e = tt
       named {r} (c ∷ cs) each e = (
-        (λ f. each.0.0 (e ∙ ap Check.Refused f), λ h. let f : Check.Refused k ≡ Check.Refused c.refusal = sym e ∙ each.0.1 h in cc),
+        (λ f. each.0.0 (e ∙ ap Err f), λ h. let f : Err k ≡ Err c.refusal = sym e ∙ each.0.1 h in cc),
         named cs each.1 e,
       )
 
-      to : CheckAnswer image table certificate goal start (Check.Refused k) → Given (outer ++ steps) k
+      to : CheckAnswer image table certificate goal start (Err k) → Given (outer ++ steps) k
       to p = ⊎_elim (given-first outer steps k)
           (λ g. given-later outer steps k g.0
-          (given-as steps k (named steps (each_step (Check.Refused k) p g.0) refl) (given-names inner k g.1)))
+          (given-as steps k (named steps (each_step (Err k) p g.0) refl) (given-names inner k g.1)))
           (given-either outer inner k p)
 
-      answered : (r : Answer) → CheckAnswer image table certificate goal start r → Given (outer ++ steps) k → r ≡ Check.Refused k
+      answered : (r : Result ℕ Refusal) → CheckAnswer image table certificate goal start r → Given (outer ++ steps) k → r ≡ Err k
       answered r p g =
           ⊎_elim (λ h. (check-refused image table certificate goal start r k p).1 (given-first outer inner k h))
-          (λ h. given_by (λ j. r ≡ Check.Refused j) steps k (told-by r steps (each_step r p h.0)) h.1) (given-either outer steps k g)
+          (λ h. given_by (λ j. r ≡ Err j) steps k (told-by r steps (each_step r p h.0)) h.1) (given-either outer steps k g)
 
-      from : Given (outer ++ steps) k → CheckAnswer image table certificate goal start (Check.Refused k)
+      from : Given (outer ++ steps) k → CheckAnswer image table certificate goal start (Err k)
       from g =
           let a = check-answers image table certificate goal start in
           subst (CheckAnswer image table certificate goal start) (answered a.0 a.1 g) a.1
@@ -250,11 +248,11 @@ module _ (image table certificate : List ℕ) (goal start : ℕ) where
   pub steps_apart : Clear outer → Apart (step_refusals image table certificate goal start)
   steps_apart clear =
       let a = check-answers image table certificate goal start in
-      apart_by (λ j. a.0 ≡ Check.Refused j) (λ j k e f. let same : Check.Refused j ≡ Check.Refused k = sym e ∙ f in cc)
+      apart_by (λ j. a.0 ≡ Err j) (λ j k e f. let same : Err j ≡ Err k = sym e ∙ f in cc)
       (step_refusals image table certificate goal start) (told-by a.0 (step_refusals image table certificate goal start) (each_step a.0 a.1 clear)) tt
 
   -- From the number of an answer the answer is told.
-  pub coded-answer : (n : ℕ) → CodedAnswer image table certificate goal start n → (r : Answer)
+  pub coded-answer : (n : ℕ) → CodedAnswer image table certificate goal start n → (r : Result ℕ Refusal)
       → (n ≡ coded r) ↔ CheckAnswer image table certificate goal start r
   coded-answer n c r = (
     λ e. subst (CheckAnswer image table certificate goal start) (coded-injective c.answer r (sym c.code ∙ e)) c.says,

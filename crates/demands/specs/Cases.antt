@@ -1,12 +1,11 @@
 -- Document 01, the marked cases 1 to 13: one table, on the document's example graph and table, and what it is for a row of it to come out. The contracts of
 -- the program's line (`Answers`) and of the check (`CheckAnswer`) say what comes out.
-use Rattle.std.specs.Prelude.{ℕ, ◌≡◌, List, [], ◌∷◌, ◌++◌, length}
+use Rattle.std.specs.Prelude.{ℕ, ◌≡◌, List, [], ◌∷◌, ◌++◌, length, Err}
 use Prim.Native.String.{String}
 use Rattle.format.specs.Example.{example_image, example_table}
 use Rattle.format.specs.declared.Refusal.{Refusal}
 use Rattle.checker.specs.Check.{CheckAnswer}
 use Rattle.checker.specs.Certificate.{Bytes}
-use Rattle.checker.specs.declared.answer.Answer.TheVariants as Check
 use Rattle.line.specs.Framing.{framed}
 use Rattle.line.specs.Text.{ascii, hex}
 use Rattle.line.specs.Line.{line_feed, refusal_line, certificate_buffer}
@@ -33,7 +32,7 @@ ComesOut (ask goal start room) line =
     (before : List ℕ) → length before ≡ room → (after : List ℕ) × Answers (framed example_image example_table goal start) before after line
 ComesOut (check goal start text) line =
     (certificate : List ℕ) × Bytes certificate × (hex certificate ≡ ascii text) × (k : Refusal) × (refusal_line k ≡ line)
-    × CheckAnswer example_image example_table certificate goal start (Check.Refused k)
+    × CheckAnswer example_image example_table certificate goal start (Err k)
 
 -- Every row of a table comes out so.
 abbrev pub All : List Case → Type 0

@@ -19,7 +19,7 @@
 --
 -- The services are functions that are proved to meet these contracts on every input, so that what is said of every answer that meets a contract is said of
 -- what they answer.
-use Rattle.std.specs.Prelude.{ℕ, ◌≤◌, ◌≡◌, List, ◌++◌, ◌↔◌, ◌⊎◌, length, drop, Option, Some}
+use Rattle.std.specs.Prelude.{ℕ, ◌≤◌, ◌≡◌, List, ◌++◌, ◌↔◌, ◌⊎◌, length, drop, Option, Some, Result, Ok, Err}
 use Rattle.logic.specs.Meaning.{Holds}
 use Rattle.format.specs.Refusal.{number, Given, Clear}
 use Rattle.format.specs.Image.{graph_of}
@@ -32,15 +32,11 @@ use Rattle.verdict.specs.Verdict.{VerdictAnswer}
 use Rattle.verdict.specs.declared.answer.Verdict.{Verdict}
 use Rattle.checker.specs.Check.{CheckAnswer, coded, CodedAnswer}
 use Rattle.checker.specs.Certificate.{Derivation, certificate_of, Certifies, Bytes}
-use Rattle.checker.specs.declared.answer.Answer.{Answer}
-use Rattle.checker.specs.declared.answer.Answer.TheVariants as Check
 use Rattle.written.specs.Chosen.{Ours}
-use Rattle.writer.specs.Write.{certificate, side_for, write_conditions, WriteAnswer}
-use Rattle.writer.specs.declared.answer.Answer.{Answer as Writing}
-use Rattle.writer.specs.declared.answer.Answer.TheVariants as Write
+use Rattle.writer.specs.Write.{certificate, side_for, write_conditions, WriteAnswer, written_as}
+use Rattle.writer.specs.declared.answer.Written.{Written}
 use Rattle.deadends.specs.DeadEnd.{report_conditions}
 use Rattle.deadends.specs.Report.{ReportAnswer}
-use Rattle.deadends.specs.declared.answer.Report.TheVariants as Report
 use Rattle.line.specs.Front.{Front}
 use Rattle.line.specs.Line.{refusal_line, certificate_buffer, longest}
 use Rattle.reply.specs.Reply.{Answers, Replied}
@@ -51,13 +47,13 @@ use Rattle.demands.specs.Services.{Serves, Left, Apart, head_refusals, step_refu
 -- So too the dead-end report, and the program, whose input is a row of bytes and which prints its whole line. The loader is given the answer as a number.
 pub record Demand1 (image table bytes : List ℕ) (goal start : ℕ) (buffer input : List ℕ) : Type 0 where
   pub numbered : (j k : Refusal) → number j ≡ number k → j ≡ k
-  pub verdict : Serves (VerdictAnswer image table goal start) Verdict.Refused (Given (question_conditions image table goal start))
-  pub check : Serves (CheckAnswer image table bytes goal start) Check.Refused (Given (check_refusals image table bytes goal start))
+  pub verdict : Serves (VerdictAnswer image table goal start) Err (Given (question_conditions image table goal start))
+  pub check : Serves (CheckAnswer image table bytes goal start) Err (Given (check_refusals image table bytes goal start))
   pub apart : Clear (head_refusals image table bytes goal start) → Apart (step_refusals image table bytes goal start)
-  pub loader : (n : ℕ) → CodedAnswer image table bytes goal start n → (r : Answer) → (n ≡ coded r) ↔ CheckAnswer image table bytes goal start r
-  pub write : Serves (λ (w : Left Writing). WriteAnswer image table goal start buffer w.buffer w.answer)
-      (λ k. record { answer = Write.Refused k; buffer = buffer }) (Given (write_conditions image table goal start buffer))
-  pub report : Serves (ReportAnswer image) Report.Refused (Given (report_conditions image))
+  pub loader : (n : ℕ) → CodedAnswer image table bytes goal start n → (r : Result ℕ Refusal) → (n ≡ coded r) ↔ CheckAnswer image table bytes goal start r
+  pub write : Serves (λ (w : Left (Result Written Refusal)). WriteAnswer image table goal start buffer w.buffer w.answer)
+      (λ k. record { answer = Err k; buffer = buffer }) (Given (write_conditions image table goal start buffer))
+  pub report : Serves (ReportAnswer image) Err (Given (report_conditions image))
   pub program : Bytes input → Serves (λ (w : Left (List ℕ)). Answers input buffer w.buffer w.answer)
       (λ k. record { answer = refusal_line k; buffer = buffer }) (ProgramGives input buffer)
   pub prints : (after out printed : List ℕ) (r : Option ℕ) → Replied input buffer after out printed r → length buffer ≤ certificate_buffer
@@ -81,23 +77,23 @@ module _ (image table : List ℕ) (goal start : ℕ) where
   -- dual. The certificate written is, byte for byte, the one that document 01 describes: the header and the steps of our proof, of which there is one and
   -- one row of bytes only, for the side that holds; the buffer has it at its front and is what it was beyond.
   pub record Demand2 : Type 0 where
-    pub yes : (r : Verdict) → VerdictAnswer image table goal start r → (r ≡ Verdict.Yes) ↔ SideHolds 0
-    pub no : (r : Verdict) → VerdictAnswer image table goal start r → (r ≡ Verdict.No) ↔ SideHolds 1
+    pub yes : (r : Result Verdict Refusal) → VerdictAnswer image table goal start r → (r ≡ Ok Verdict.Yes) ↔ SideHolds 0
+    pub no : (r : Result Verdict Refusal) → VerdictAnswer image table goal start r → (r ≡ Ok Verdict.No) ↔ SideHolds 1
     pub negation : SideHolds 1 ↔ (SideHolds 0 → ⊥)
     pub side : (side : ℕ) → side ≤ 1 → (side ≡ side_for image table goal start) ↔ SideHolds side
     pub some : OurProof
     pub bytes : (p : OurProof) → certificate image table goal start ≡ certificate_of image table goal start (side_for image table goal start) p.proof
-    pub front : (before after : List ℕ) (side size : ℕ) → WriteAnswer image table goal start before after (Write.Written side size)
+    pub front : (before after : List ℕ) (side size : ℕ) → WriteAnswer image table goal start before after (Ok (written_as side size))
         → (side ≡ side_for image table goal start) × (size ≡ length (certificate image table goal start))
         × (after ≡ certificate image table goal start ++ drop size before)
 
   -- Demand 3. What the checker accepts, whoever wrote it, holds. Of the two sides exactly one has a proof by document 01's rules, of some length. The checker
   -- accepts exactly the certificates of such proofs, each of which is a row of bytes; and ours is among them.
   pub record Demand3 : Type 0 where
-    pub sound : (bytes : List ℕ) (side : ℕ) → CheckAnswer image table bytes goal start (Check.Accepted side) → SideHolds side
+    pub sound : (bytes : List ℕ) (side : ℕ) → CheckAnswer image table bytes goal start (Ok side) → SideHolds side
     pub one : Derivation image table goal start 0 ⊎ Derivation image table goal start 1
     pub not_both : Derivation image table goal start 0 → Derivation image table goal start 1 → ⊥
     pub exactly : (bytes : List ℕ) (side : ℕ) → side ≤ 1
-        → CheckAnswer image table bytes goal start (Check.Accepted side) ↔ Certifies image table goal start side bytes
+        → CheckAnswer image table bytes goal start (Ok side) ↔ Certifies image table goal start side bytes
     pub storable : (side : ℕ) → side ≤ 1 → (d : Derivation image table goal start side) → Bytes (certificate_of image table goal start side d)
-    pub ours : CheckAnswer image table (certificate image table goal start) goal start (Check.Accepted (side_for image table goal start))
+    pub ours : CheckAnswer image table (certificate image table goal start) goal start (Ok (side_for image table goal start))

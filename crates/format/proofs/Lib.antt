@@ -13,3 +13,4 @@ pub mod VariableLaws
 pub mod RuledLaws
 pub mod RootLaws
 pub mod Promise
+pub mod CodedLaws

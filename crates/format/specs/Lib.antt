@@ -6,4 +6,5 @@ pub mod Table
 pub mod Question
 pub mod Reading
 pub mod Answers
+pub mod Coded
 pub mod Example

@@ -1,6 +1,7 @@
 // The stored forms: reading a stage image, a formula table, and a goal with its start, to their shape or to one of the refusals 1 to 13.
 #![tactic(auto)]
 
+pub mod answer;
 pub mod image;
 mod nesting;
 mod operands;
@@ -58,7 +59,7 @@ pub fn byte(bytes: &[u8], at: usize) -> u8
 }
 
 // Whether a stored form is long enough and begins with its mark and version 1.
-fn begins(bytes: &[u8], letter: u8, least: usize) -> bool
+pub fn begins(bytes: &[u8], letter: u8, least: usize) -> bool
     ensures { Decides result (Begins letter least bytes.now) }
 {
     bytes.len() >= least && bytes.starts_with(&[b'Z', b'S', letter, 0, 1])

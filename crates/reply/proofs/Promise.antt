@@ -17,7 +17,7 @@ use mathlib.Core.Path.{◌≡◌, refl, sym, ap, ap₂, ◌∙◌, subst, subst�
 use mathlib.Core.List.{List, ◌++◌}
 use mathlib.Core.Logic.{◌↔◌, inl, inr, ⊎_elim}
 use lib.ListN.{length, drop}
-use Rattle.std.specs.Prelude.{Option, Some}
+use Rattle.std.specs.Prelude.{Option, Some, Ok}
 use Rattle.model.specs.Formula.{dual}
 use Rattle.logic.specs.Meaning.{Holds}
 use Rattle.sets.proofs.LawsBytes.{Bytes}
@@ -32,7 +32,6 @@ use Rattle.format.proofs.RefusalLaws.{given-one, clear_none, clear_first, clear_
 use Rattle.hand.specs.Environment.{started}
 use Rattle.hand.specs.Side.{sided}
 use Rattle.checker.specs.Check.{CheckAnswer}
-use Rattle.checker.specs.declared.answer.Answer.TheVariants as Ch
 use Rattle.writer.specs.Write.{room_conditions}
 use Rattle.writer.proofs.Promise.{decided, side-exactly, certificate-accepted}
 use Rattle.line.specs.Front.{Front}
@@ -233,9 +232,9 @@ module _ {input before after line : List ℕ} (a : Answers input before after li
 
     -- Whatever side and bytes a line shows, the checker accepts these bytes for that side.
     pub shown-accepted : (s : ℕ) (bytes : List ℕ) → s ≤ 1 → line ≡ line_of s bytes
-        → CheckAnswer o.image o.table bytes o.goal o.start (Ch.Accepted s)
+        → CheckAnswer o.image o.table bytes o.goal o.start (Ok s)
     shown-accepted s bytes h e =
         let clear = ((side-word s h).0 (subst (Says (side_word s)) (sym e) (line-says s bytes))).0 in
         let told = line-told s (side_of o) bytes (certificate_of o) h (side-small o) (sym e ∙ certified-exactly.1 clear) in
-        subst₂ (λ (k : ℕ) (l : List ℕ). CheckAnswer o.image o.table l o.goal o.start (Ch.Accepted k)) (sym told.0) (sym told.1)
+        subst₂ (λ (k : ℕ) (l : List ℕ). CheckAnswer o.image o.table l o.goal o.start (Ok k)) (sym told.0) (sym told.1)
         (certificate-accepted o.image o.table o.goal o.start (asked clear))

@@ -19,25 +19,27 @@ use Rattle.format.specs.Refusal.{Clear}
 use Rattle.format.specs.declared.Refusal.TheVariants as R
 use Rattle.format.proofs.Decision.{answer, answer-clear, question-decided}
 use Rattle.format.proofs.Example as marked
+use Rattle.std.specs.Prelude.{Result, Ok, Err}
+use Rattle.format.specs.declared.Refusal.{Refusal}
 use Rattle.verdict.specs.Verdict.{VerdictAnswer}
 use Rattle.verdict.specs.declared.answer.Verdict.{Verdict}
 use Rattle.verdict.specs.declared.answer.Verdict.TheVariants as Ve
 use Rattle.verdict.proofs.AnswerLaws.{yes-answer, no_answer}
 
 -- The verdict of the example's goal at a start.
-abbrev Example : ℕ → ℕ → Verdict → Type 0
+abbrev Example : ℕ → ℕ → Result Verdict Refusal → Type 0
 Example goal start r = VerdictAnswer example_image example_table goal start r
 
 -- EU(true, fired) holds at "armed", AF(fired) does not, and at "fired" it does; "true" holds. Goal 0 has variable 1 free, goal 5 is none, and
 -- start 3 is none.
 pub example :
-    Example 2 0 Ve.Yes
-    × Example 4 0 Ve.No
-    × Example 4 2 Ve.Yes
-    × Example 1 1 Ve.Yes
-    × Example 0 0 (Ve.Refused R.FreeVariable)
-    × Example 5 0 (Ve.Refused R.NoSuchGoal)
-    × Example 2 3 (Ve.Refused R.NoSuchStart)
+    Example 2 0 (Ok Ve.Yes)
+    × Example 4 0 (Ok Ve.No)
+    × Example 4 2 (Ok Ve.Yes)
+    × Example 1 1 (Ok Ve.Yes)
+    × Example 0 0 (Err R.FreeVariable)
+    × Example 5 0 (Err R.NoSuchGoal)
+    × Example 2 3 (Err R.NoSuchStart)
 unfolding stored first_set trees iter each_next some_next all_below any_below
 example = (
   yes-answer (marked.example).0 refl,
@@ -68,7 +70,7 @@ pair_image =
 abbrev pair_table : List ℕ
 pair_table = 0x5A ∷ 0x53 ∷ 0x46 ∷ 0 ∷ 1 ∷ 2 ∷ 2 ∷ 0 ∷ 1 ∷ 0 ∷ 0 ∷ 0x40 ∷ 2 ∷ 0 ∷ 0x40 ∷ 0 ∷ 0 ∷ 1 ∷ []
 
-pub terms : VerdictAnswer pair_image pair_table 0 0 Ve.Yes × VerdictAnswer pair_image pair_table 1 0 Ve.No
+pub terms : VerdictAnswer pair_image pair_table 0 0 (Ok Ve.Yes) × VerdictAnswer pair_image pair_table 1 0 (Ok Ve.No)
 unfolding stored first_set operands trees iter each_next some_next all_below any_below
 terms = (
   yes-answer (allowed pair_image pair_table 0 0 refl) refl,
@@ -85,6 +87,6 @@ binding_table =
     ∷ 6 ∷ 2 ∷ 0 ∷ 1 ∷ 0 ∷ 0x40
     ∷ []
 
-pub bindings : VerdictAnswer example_image binding_table 3 0 Ve.No
+pub bindings : VerdictAnswer example_image binding_table 3 0 (Ok Ve.No)
 unfolding stored first_set operands trees iter each_next some_next all_below any_below
 bindings = no_answer (allowed example_image binding_table 3 0 refl) refl

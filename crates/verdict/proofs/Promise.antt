@@ -15,6 +15,7 @@ use mathlib.Core.Path.{◌≡◌, refl, sym, ap, ◌∙◌, subst}
 use mathlib.Core.List.{List}
 use mathlib.Core.Logic.Iff
 use mathlib.Core.Logic.{◌↔◌}
+use Rattle.std.specs.Prelude.{Result, Ok, Err}
 use Rattle.model.specs.Formula.{Formula, Env, dual, Free}
 use Rattle.logic.specs.Meaning.{Holds}
 use Rattle.logic.specs.Test.{Stages}
@@ -28,11 +29,12 @@ use Rattle.format.specs.Image.{graph_of}
 use Rattle.format.specs.Table.{tree_of}
 use Rattle.format.specs.Question.{question_conditions}
 use Rattle.format.specs.declared.Refusal.{Refusal}
-use Rattle.format.proofs.RefusalLaws.{given-one, clear_none, number-injective, number_small}
+use Rattle.format.proofs.RefusalLaws.{given-one, clear_none}
+use Rattle.format.proofs.CodedLaws.{coded_by-told}
 use Rattle.format.proofs.ReadableLaws.{only_zero}
 use Rattle.hand.specs.Environment.{started}
 use Rattle.verdict.specs.Evaluation.{Collects}
-use Rattle.verdict.specs.Verdict.{VerdictAnswer, coded, CodedAnswer}
+use Rattle.verdict.specs.Verdict.{VerdictAnswer, extra_of, coded, CodedAnswer}
 use Rattle.verdict.specs.declared.answer.Verdict.{Verdict}
 use Rattle.verdict.specs.declared.answer.Verdict.TheVariants as Ve
 use Rattle.verdict.proofs.CollectLaws.{collects-once}
@@ -40,43 +42,43 @@ use Rattle.verdict.proofs.AnswerLaws.{asked-readable, asked-below, asked-stands}
 
 module _ (image table : List ℕ) (goal start : ℕ) where
   -- Not both the goal and its dual hold.
-  opposed : {A : Type 0} → VerdictAnswer image table goal start Ve.Yes → VerdictAnswer image table goal start Ve.No → A
+  opposed : {A : Type 0} → VerdictAnswer image table goal start (Ok Ve.Yes) → VerdictAnswer image table goal start (Ok Ve.No) → A
   opposed p q =
       let clear = p.clear in
       absurd ((dual-holds (asked-readable clear) (tree_of image table goal) (started start) (asked-below clear) (asked-stands clear)).0 q.says p.says)
 
   -- Two answers to one question are one.
-  pub verdict-once : (r s : Verdict) → VerdictAnswer image table goal start r → VerdictAnswer image table goal start s → r ≡ s
-  verdict-once Ve.Yes Ve.Yes p q = refl
-  verdict-once Ve.Yes Ve.No p q = opposed p q
-  verdict-once Ve.Yes (Ve.Refused k) p q = absurd (clear_none (question_conditions image table goal start) k p.clear q)
-  verdict-once Ve.No Ve.Yes p q = opposed q p
-  verdict-once Ve.No Ve.No p q = refl
-  verdict-once Ve.No (Ve.Refused k) p q = absurd (clear_none (question_conditions image table goal start) k p.clear q)
-  verdict-once (Ve.Refused j) Ve.Yes p q = absurd (clear_none (question_conditions image table goal start) j q.clear p)
-  verdict-once (Ve.Refused j) Ve.No p q = absurd (clear_none (question_conditions image table goal start) j q.clear p)
-  verdict-once (Ve.Refused j) (Ve.Refused k) p q = ap Ve.Refused (given-one (question_conditions image table goal start) j k p q)
+  pub verdict-once : (r s : Result Verdict Refusal) → VerdictAnswer image table goal start r → VerdictAnswer image table goal start s → r ≡ s
+  verdict-once (Ok Ve.Yes) (Ok Ve.Yes) p q = refl
+  verdict-once (Ok Ve.Yes) (Ok Ve.No) p q = opposed p q
+  verdict-once (Ok Ve.Yes) (Err k) p q = absurd (clear_none (question_conditions image table goal start) k p.clear q)
+  verdict-once (Ok Ve.No) (Ok Ve.Yes) p q = opposed q p
+  verdict-once (Ok Ve.No) (Ok Ve.No) p q = refl
+  verdict-once (Ok Ve.No) (Err k) p q = absurd (clear_none (question_conditions image table goal start) k p.clear q)
+  verdict-once (Err j) (Ok Ve.Yes) p q = absurd (clear_none (question_conditions image table goal start) j q.clear p)
+  verdict-once (Err j) (Ok Ve.No) p q = absurd (clear_none (question_conditions image table goal start) j q.clear p)
+  verdict-once (Err j) (Err k) p q = ap Err (given-one (question_conditions image table goal start) j k p q)
 
   -- An answer is the one whose condition holds.
-  is-exactly : (r s : Verdict) → VerdictAnswer image table goal start r → (r ≡ s) ↔ VerdictAnswer image table goal start s
+  is-exactly : (r s : Result Verdict Refusal) → VerdictAnswer image table goal start r → (r ≡ s) ↔ VerdictAnswer image table goal start s
   is-exactly r s p = (λ e. subst (VerdictAnswer image table goal start) e p, λ q. verdict-once r s p q)
 
   -- A refusal comes exactly when document 01 gives it.
-  pub refused-exactly : (r : Verdict) (k : Refusal) → VerdictAnswer image table goal start r
-      → (r ≡ Ve.Refused k) ↔ Given (question_conditions image table goal start) k
-  refused-exactly r k p = is-exactly r (Ve.Refused k) p
+  pub refused-exactly : (r : Result Verdict Refusal) (k : Refusal) → VerdictAnswer image table goal start r
+      → (r ≡ Err k) ↔ Given (question_conditions image table goal start) k
+  refused-exactly r k p = is-exactly r (Err k) p
 
-  module _ (clear : Clear (question_conditions image table goal start)) (r : Verdict) (p : VerdictAnswer image table goal start r) where
+  module _ (clear : Clear (question_conditions image table goal start)) (r : Result Verdict Refusal) (p : VerdictAnswer image table goal start r) where
     -- Where nothing is refused: yes exactly when the goal holds,
-    pub yes-exactly : (r ≡ Ve.Yes) ↔ Holds (graph_of image) (tree_of image table goal) (started start)
-    yes-exactly = (λ e. ((is-exactly r Ve.Yes p).0 e).says, λ h. (is-exactly r Ve.Yes p).1 (record { clear = clear; says = h }))
+    pub yes-exactly : (r ≡ Ok Ve.Yes) ↔ Holds (graph_of image) (tree_of image table goal) (started start)
+    yes-exactly = (λ e. ((is-exactly r (Ok Ve.Yes) p).0 e).says, λ h. (is-exactly r (Ok Ve.Yes) p).1 (record { clear = clear; says = h }))
 
     -- no exactly when its dual holds,
-    pub no-exactly : (r ≡ Ve.No) ↔ Holds (graph_of image) (dual (tree_of image table goal)) (started start)
-    no-exactly = (λ e. ((is-exactly r Ve.No p).0 e).says, λ h. (is-exactly r Ve.No p).1 (record { clear = clear; says = h }))
+    pub no-exactly : (r ≡ Ok Ve.No) ↔ Holds (graph_of image) (dual (tree_of image table goal)) (started start)
+    no-exactly = (λ e. ((is-exactly r (Ok Ve.No) p).0 e).says, λ h. (is-exactly r (Ok Ve.No) p).1 (record { clear = clear; says = h }))
 
     -- and that is exactly when the goal does not hold.
-    pub no-unless : (r ≡ Ve.No) ↔ (Holds (graph_of image) (tree_of image table goal) (started start) → ⊥)
+    pub no-unless : (r ≡ Ok Ve.No) ↔ (Holds (graph_of image) (tree_of image table goal) (started start) → ⊥)
     no-unless =
         Iff.trans no-exactly
         (dual-holds (asked-readable clear) (tree_of image table goal) (started start) (asked-below clear) (asked-stands clear))
@@ -86,10 +88,10 @@ module _ (image table : List ℕ) (goal start : ℕ) where
       anywhere : (f : Formula) → ((v : ℕ) → Free v f → v ≡ 0) → Holds (graph_of image) f (started start) ↔ Holds (graph_of image) f e
       anywhere f only = holds-start (graph_of image) f only (started start) e (sym at-start)
 
-      pub yes-anywhere : (r ≡ Ve.Yes) ↔ Holds (graph_of image) (tree_of image table goal) e
+      pub yes-anywhere : (r ≡ Ok Ve.Yes) ↔ Holds (graph_of image) (tree_of image table goal) e
       yes-anywhere = Iff.trans yes-exactly (anywhere (tree_of image table goal) (only_zero image table goal start clear))
 
-      pub no-anywhere : (r ≡ Ve.No) ↔ Holds (graph_of image) (dual (tree_of image table goal)) e
+      pub no-anywhere : (r ≡ Ok Ve.No) ↔ Holds (graph_of image) (dual (tree_of image table goal)) e
       no-anywhere =
           Iff.trans no-exactly
           (anywhere (dual (tree_of image table goal))
@@ -98,16 +100,14 @@ module _ (image table : List ℕ) (goal start : ℕ) where
 -- ---- the coding for callers in C
 
 -- Two answers of one code are one: no refusal has the number 128 or 129.
-pub coded-injective : (r s : Verdict) → coded r ≡ coded s → r ≡ s
-coded-injective Ve.Yes Ve.Yes e = refl
-coded-injective Ve.Yes Ve.No e = absurd (omega arith)
-coded-injective Ve.Yes (Ve.Refused k) e = absurd (omega (arith, number_small k))
-coded-injective Ve.No Ve.Yes e = absurd (omega arith)
-coded-injective Ve.No Ve.No e = refl
-coded-injective Ve.No (Ve.Refused k) e = absurd (omega (arith, number_small k))
-coded-injective (Ve.Refused j) Ve.Yes e = absurd (omega (arith, number_small j))
-coded-injective (Ve.Refused j) Ve.No e = absurd (omega (arith, number_small j))
-coded-injective (Ve.Refused j) (Ve.Refused k) e = ap Ve.Refused (number-injective j k e)
+pub coded-injective : (r s : Result Verdict Refusal) → coded r ≡ coded s → r ≡ s
+coded-injective r s = coded_by-told extra_of r s (λ a b p q. own a b)
+  where
+    own : (a b : Verdict) → extra_of a ≡ extra_of b → a ≡ b
+    own Ve.Yes Ve.Yes e = refl
+    own Ve.Yes Ve.No e = absurd (omega arith)
+    own Ve.No Ve.Yes e = absurd (omega arith)
+    own Ve.No Ve.No e = refl
 
 -- Two numbers that meet the contract of the exported function are one.
 pub code-once : (image table : List ℕ) (goal start m n : ℕ) → CodedAnswer image table goal start m → CodedAnswer image table goal start n → m ≡ n

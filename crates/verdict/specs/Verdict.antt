@@ -1,9 +1,11 @@
 -- Document 01, the verdict: yes or no, or the first of the refusals 1 to 13.
-use Rattle.std.specs.Prelude.{ℕ, ◌≡◌, Bool, List}
+use Rattle.std.specs.Prelude.{ℕ, ◌≡◌, Bool, List, Result, Ok, Err}
 use Rattle.model.specs.Formula.{dual}
 use Rattle.logic.specs.Meaning.{Holds}
 use Rattle.logic.specs.Test.{test}
-use Rattle.format.specs.Refusal.{number, Given, Clear}
+use Rattle.format.specs.Refusal.{Given, Clear}
+use Rattle.format.specs.Coded.{coded_by}
+use Rattle.format.specs.declared.Refusal.{Refusal}
 use Rattle.format.specs.Image.{graph_of}
 use Rattle.format.specs.Table.{tree_of}
 use Rattle.format.specs.Question.{question_conditions}
@@ -17,19 +19,21 @@ pub record Answered (image table : List ℕ) (goal start : ℕ) (holds : Type 0)
   pub says : holds
 
 -- Yes where the goal holds at the start, no where its dual does; a refusal where document 01 gives it.
-abbrev pub VerdictAnswer : List ℕ → List ℕ → ℕ → ℕ → Verdict → Type 0
-VerdictAnswer image table goal start Ve.Yes = Answered image table goal start (Holds (graph_of image) (tree_of image table goal) (started start))
-VerdictAnswer image table goal start Ve.No = Answered image table goal start (Holds (graph_of image) (dual (tree_of image table goal)) (started start))
-VerdictAnswer image table goal start (Ve.Refused k) = Given (question_conditions image table goal start) k
+abbrev pub VerdictAnswer : List ℕ → List ℕ → ℕ → ℕ → Result Verdict Refusal → Type 0
+VerdictAnswer image table goal start (Ok Ve.Yes) = Answered image table goal start (Holds (graph_of image) (tree_of image table goal) (started start))
+VerdictAnswer image table goal start (Ok Ve.No) = Answered image table goal start (Holds (graph_of image) (dual (tree_of image table goal)) (started start))
+VerdictAnswer image table goal start (Err k) = Given (question_conditions image table goal start) k
 
 -- The coding of an answer for callers in C: a refusal is its number, yes is 128, no is 129.
-abbrev pub coded : Verdict → ℕ
-coded Ve.Yes = 128
-coded Ve.No = 129
-coded (Ve.Refused k) = number k
+abbrev pub extra_of : Verdict → ℕ
+extra_of Ve.Yes = 0
+extra_of Ve.No = 1
+
+abbrev pub coded : Result Verdict Refusal → ℕ
+coded = coded_by extra_of
 
 pub record CodedAnswer (image table : List ℕ) (goal start r : ℕ) : Type 0 where
-  pub verdict : Verdict
+  pub verdict : Result Verdict Refusal
   pub answer : VerdictAnswer image table goal start verdict
   pub code : r ≡ coded verdict
 

@@ -27,27 +27,24 @@ ghost use Rattle.format.specs.Answers.{QuestionRead};
 ghost use Rattle.verdict.specs.Verdict.{VerdictAnswer, CodedAnswer, goal_test};
 
 use answer::Verdict;
-use format::question;
+use format::answer::code;
 use format::question::Question;
+use format::{Refusal, question};
 use hand::env::Env;
 use hand::setup::{NEXT, decode};
 use sets::Set;
 use setup::Setup;
 
 // Whether the goal holds at the start, or the first of the refusals 1 to 13.
-pub fn verdict(image: &[u8], table: &[u8], goal: u64, start: u64) -> Verdict
+pub fn verdict(image: &[u8], table: &[u8], goal: u64, start: u64) -> Result<Verdict, Refusal>
     ensures { VerdictAnswer image.now table.now goal start result }
 {
-    match question::read(image, table, goal, start) {
-        Err(k) => Verdict::Refused(k),
-        Ok(q) => {
-            if goal_holds(image, table, q) {
-                Verdict::Yes
-            } else {
-                Verdict::No
-            }
-        }
-    }
+    let q = question::read(image, table, goal, start)?;
+    Ok(if goal_holds(image, table, q) {
+        Verdict::Yes
+    } else {
+        Verdict::No
+    })
 }
 
 // The same of a question that was read: the successor sets are decoded once, variable 0 stands at the start, and the others, which the
@@ -76,5 +73,5 @@ fn goal_holds(image: &[u8], table: &[u8], q: Question) -> bool
 pub fn zseq_verdict(image: &[u8], table: &[u8], goal: u64, start: u64) -> u64
     ensures { CodedAnswer image.now table.now goal start result }
 {
-    answer::code(verdict(image, table, goal, start))
+    code(verdict(image, table, goal, start))
 }

@@ -4,18 +4,18 @@
 --     question-sets, question-most, question-prepared, question-holding
 --                                what a run asks: the setup, and that the side holds
 --     no_room, with-room         the buffer is too short; the certificate was written
---     question-refused, question-answered
---                                the arms of the answer of the question's reader
+--     question-refused           a refusal of the question's reader
 use Prim.Native.Nat.{ℕ, ◌+◌, ◌≤◌, ◌<◌}
 use native.Mathlib.Omega.{arith}
 use native.Mathlib.Nat.{zero-add}
-use mathlib.Core.Path.{◌≡◌, refl, sym, ap, ap₂, ◌∙◌, subst, subst₂}
+use mathlib.Core.Path.{◌≡◌, refl, sym, ap, ap₂, ◌∙◌, subst}
 use mathlib.Core.Bool.{Bool, true, false, not}
 use mathlib.Core.List.{List, ◌++◌}
 use mathlib.Core.Logic.{inl}
 use lib.Dec.{T}
 use lib.ListN.{length, drop}
 use lib.Seq.{sets-eq}
+use Rattle.std.specs.Prelude.{Ok, Err}
 use Rattle.sets.specs.declared.Set.{Set}
 use Rattle.hand.specs.declared.setup.Entry.{Entry}
 use Rattle.model.specs.Formula.{Env}
@@ -43,13 +43,11 @@ use Rattle.hand.specs.declared.env.Env.{Env as Slots}
 use Rattle.hand.proofs.HandLaws.{successors-in}
 use Rattle.hand.proofs.EnvironmentLaws.{start-env}
 use Rattle.verdict.specs.Evaluation.{truth_of}
-use Rattle.verdict.proofs.AnswerLaws.{start_env, question-ready, question-row, own-goal, own-start}
+use Rattle.verdict.proofs.AnswerLaws.{start_env, question-ready, question-row}
 use Rattle.guide.specs.Sides.{truth_on}
 use Rattle.pen.specs.Wrote.{Wrote}
 use Rattle.pen.specs.Steps.{entry_steps, whole_bytes, Holding}
-use Rattle.writer.specs.Write.{side_by, side_for, certificate_on, certificate, room_conditions, WriteAnswer}
-use Rattle.writer.specs.declared.answer.Answer.{Answer}
-use Rattle.writer.specs.declared.answer.Answer.TheVariants as An
+use Rattle.writer.specs.Write.{side_by, side_for, certificate_on, certificate, room_conditions, written_as, WriteAnswer}
 
 module _ (image table : List ℕ) (goal start : ℕ) where
   -- What a run goes through, where the variables stand as the code has them at the start.
@@ -74,7 +72,7 @@ module _ (image table : List ℕ) (goal start : ℕ) where
     long = ap length (whole-certificate side_is)
 
     -- Where it comes past the buffer's end the certificate is longer than the buffer,
-    pub no_room : length left < counted → WriteAnswer image table goal start before left (An.Refused R.BufferTooShort)
+    pub no_room : length left < counted → WriteAnswer image table goal start before left (Err R.BufferTooShort)
     no_room h = record {
       given =
           given-later (question_conditions image table goal start) (room_conditions image table goal start before) R.BufferTooShort clear
@@ -84,7 +82,7 @@ module _ (image table : List ℕ) (goal start : ℕ) where
 
     -- and else the second run writes it.
     pub with-room : counted ≤ length left → {after : List ℕ} {end : ℕ} → Wrote true (run_over side) 0 left after end
-        → WriteAnswer image table goal start before after (An.Written side counted)
+        → WriteAnswer image table goal start before after (Ok (written_as side counted))
     with-room h {after} wrote = record {
       clear =
           clear_both (question_conditions image table goal start) (room_conditions image table goal start before) clear
@@ -154,14 +152,8 @@ module _ {image table : List ℕ} {q : Question} (read : QuestionRead image tabl
 
 -- A refusal of the question comes before 14, and changes nothing.
 pub question-refused : (image table : List ℕ) (goal start : ℕ) (buffer : List ℕ) {k : Refusal} → Given (question_conditions image table goal start) k
-    → WriteAnswer image table goal start buffer buffer (An.Refused k)
+    → WriteAnswer image table goal start buffer buffer (Err k)
 question-refused image table goal start buffer {k} g = record {
   given = given-first (question_conditions image table goal start) (room_conditions image table goal start buffer) k g;
   kept = refl;
 }
-
--- A question is answered with its own goal and start.
-pub question-answered : {image table : List ℕ} {goal start : ℕ} {q : Question} → QuestionRead image table goal start q → (before after : List ℕ) (r : Answer)
-    → WriteAnswer image table q.goal q.start before after r → WriteAnswer image table goal start before after r
-question-answered {image} {table} {goal} {start} {q} read before after r w =
-    subst₂ (λ (g s : ℕ). WriteAnswer image table g s before after r) (own-goal read) (own-start read) w

@@ -12,14 +12,14 @@ use Rattle.format.specs.declared.Refusal.{Refusal}
 use Rattle.format.specs.declared.Refusal.TheVariants as R
 use Rattle.format.proofs.Decision.{outcome}
 use Rattle.checker.specs.Header.{header_of}
-use Rattle.writer.specs.Write.{certificate, write_conditions, WriteAnswer}
-use Rattle.writer.specs.declared.answer.Answer.{Answer}
-use Rattle.writer.specs.declared.answer.Answer.TheVariants as An
+use Rattle.std.specs.Prelude.{Result, Ok, Err}
+use Rattle.writer.specs.Write.{certificate, write_conditions, written_as, WriteAnswer}
+use Rattle.writer.specs.declared.answer.Written.{Written}
 use Rattle.writer.proofs.Promise.{decided, Decision, answer_of, buffer_of, answer-of}
 
 -- An answer, and what the buffer holds with it.
 pub record Outcome : Type 0 where
-  pub answer : Answer
+  pub answer : Result Written Refusal
   pub buffer : List ℕ
 
 -- A case: the goal and the start that are asked for, the buffer that is lent, and what comes of it.
@@ -48,11 +48,11 @@ case_one = 0x5A ∷ 0x53 ∷ 0x43 ∷ 0x00 ∷ 0x01 ∷ 0x00 ∷ 0x02 ∷ 0x00 �
 
 abbrev writes : ℕ → ℕ → List ℕ → ℕ → ℕ → List ℕ → Case
 writes goal start buffer side size after =
-    record { goal = goal; start = start; buffer = buffer; outcome = record { answer = An.Written side size; buffer = after } }
+    record { goal = goal; start = start; buffer = buffer; outcome = record { answer = Ok (written_as side size); buffer = after } }
 
 abbrev refuses : ℕ → ℕ → List ℕ → Refusal → Case
 refuses goal start buffer k =
-    record { goal = goal; start = start; buffer = buffer; outcome = record { answer = An.Refused k; buffer = buffer } }
+    record { goal = goal; start = start; buffer = buffer; outcome = record { answer = Err k; buffer = buffer } }
 
 unfoldable pub cases : List Case
 cases =

@@ -18,7 +18,7 @@
 -- Assumes nothing.
 use Prim.Native.Nat.{ℕ, zero, suc, ◌≤◌, ◌<◌}
 use native.Mathlib.Omega.{arith}
-use mathlib.Core.Path.{◌≡◌, refl, sym, ap, ap₂, ◌∙◌, subst}
+use mathlib.Core.Path.{◌≡◌, refl, sym, ap, ◌∙◌, subst}
 use mathlib.Core.Bool.{Bool, true, false, not}
 use mathlib.Core.List.{List, [], ◌∷◌, ◌++◌}
 use mathlib.Core.Logic.Iff
@@ -31,13 +31,15 @@ use Rattle.logic.specs.Meaning.{Holds}
 use Rattle.logic.specs.Test.{test}
 use Rattle.logic.proofs.TestMeaning.{test-holds}
 use Rattle.logic.proofs.Duality.{test-dual}
+use Rattle.std.specs.Prelude.{Result, Ok, Err}
 use Rattle.format.specs.Refusal.{Condition, Given, Clear}
 use Rattle.format.specs.Image.{graph_of}
 use Rattle.format.specs.Table.{tree_of}
 use Rattle.format.specs.Question.{question_conditions}
 use Rattle.format.specs.declared.Refusal.{Refusal}
 use Rattle.format.specs.declared.Refusal.TheVariants as R
-use Rattle.format.proofs.RefusalLaws.{given-one, given-later, clear_none, clear_first, clear_later, number-injective, number_small}
+use Rattle.format.proofs.RefusalLaws.{given-one, given-later, clear_none, clear_first, clear_later}
+use Rattle.format.proofs.CodedLaws.{coded_by-told}
 use Rattle.format.proofs.Decision.{Decided, lt?, outcome, decided-both, question-decided}
 use Rattle.hand.specs.Environment.{started}
 use Rattle.hand.specs.Side.{sided}
@@ -49,13 +51,10 @@ use Rattle.written.proofs.Derivation.{written-derived}
 use Rattle.checker.specs.Header.{header_of}
 use Rattle.checker.specs.Check.{CheckAnswer}
 use Rattle.checker.specs.Certificate.{Certifies}
-use Rattle.checker.specs.declared.answer.Answer.{Answer as Checked}
-use Rattle.checker.specs.declared.answer.Answer.TheVariants as Ch
 use Rattle.checker.proofs.CertificateLaws.{asked-readable, asked-below, asked-stands, certifies-accepted}
 use Rattle.checker.proofs.Promise.{check-once, accepted-anywhere}
-use Rattle.writer.specs.Write.{side_by, side_for, certificate, room_conditions, write_conditions, WriteAnswer, coded, length_after, CodedAnswer}
-use Rattle.writer.specs.declared.answer.Answer.{Answer}
-use Rattle.writer.specs.declared.answer.Answer.TheVariants as An
+use Rattle.writer.specs.Write.{side_by, side_for, certificate, room_conditions, write_conditions, WriteAnswer, written_as, coded, length_after, CodedAnswer}
+use Rattle.writer.specs.declared.answer.Written.{Written}
 
 -- ---- the side and the certificate
 
@@ -104,16 +103,16 @@ module _ (image table : List ℕ) (goal start : ℕ) (clear : Clear (question_co
       (d.0, ap (λ (steps : List ℕ). header_of side goal start ++ steps) (sym d.1))
 
   -- so the checker accepts it,
-  pub certificate-accepted : CheckAnswer image table (certificate image table goal start) goal start (Ch.Accepted (side_for image table goal start))
+  pub certificate-accepted : CheckAnswer image table (certificate image table goal start) goal start (Ok (side_for image table goal start))
   certificate-accepted =
       certifies-accepted image table goal start clear (side_for image table goal start) (side-small (goal_test image table goal start))
       (certificate image table goal start) certificate-derived
 
   -- and answers nothing else.
-  pub only-accepted : (r : Checked) → CheckAnswer image table (certificate image table goal start) goal start r
-      → r ≡ Ch.Accepted (side_for image table goal start)
+  pub only-accepted : (r : Result ℕ Refusal) → CheckAnswer image table (certificate image table goal start) goal start r
+      → r ≡ Ok (side_for image table goal start)
   only-accepted r a =
-      check-once image table (certificate image table goal start) goal start r (Ch.Accepted (side_for image table goal start)) a certificate-accepted
+      check-once image table (certificate image table goal start) goal start r (Ok (side_for image table goal start)) a certificate-accepted
 
   -- The side holds wherever variables 1 to 3 stand,
   pub side-anywhere : (e : Env) → e 0 ≡ start → Holds (graph_of image) (sided (side_for image table goal start) (tree_of image table goal)) e
@@ -121,11 +120,11 @@ module _ (image table : List ℕ) (goal start : ℕ) (clear : Clear (question_co
       accepted-anywhere image table (certificate image table goal start) goal start (side_for image table goal start) certificate-accepted
 
   -- and is the verdict's: 0 where that is yes, 1 where it is no.
-  module _ (v : Verdict) (p : VerdictAnswer image table goal start v) where
-    pub verdict-yes : (v ≡ Ve.Yes) ↔ (0 ≡ side_for image table goal start)
+  module _ (v : Result Verdict Refusal) (p : VerdictAnswer image table goal start v) where
+    pub verdict-yes : (v ≡ Ok Ve.Yes) ↔ (0 ≡ side_for image table goal start)
     verdict-yes = Iff.trans (yes-exactly image table goal start clear v p) (Iff.symm (side-exactly 0 (omega arith)))
 
-    pub verdict-no : (v ≡ Ve.No) ↔ (1 ≡ side_for image table goal start)
+    pub verdict-no : (v ≡ Ok Ve.No) ↔ (1 ≡ side_for image table goal start)
     verdict-no = Iff.trans (no-exactly image table goal start clear v p) (Iff.symm (side-exactly 1 (omega arith)))
 
 -- ---- the buffer
@@ -135,10 +134,10 @@ module _ (image table : List ℕ) (goal start : ℕ) (before : List ℕ) where
   question-clear = clear_first (question_conditions image table goal start) (room_conditions image table goal start before)
 
   module _ (after : List ℕ) where
-    abbrev Answers : Answer → Type 0
+    abbrev Answers : Result Written Refusal → Type 0
     Answers r = WriteAnswer image table goal start before after r
 
-    module _ {side size : ℕ} (w : Answers (An.Written side size)) where
+    module _ {side size : ℕ} (w : Answers (Ok (written_as side size))) where
       -- The certificate fits.
       room : length (certificate image table goal start) ≤ length before
       room =
@@ -160,35 +159,36 @@ module _ (image table : List ℕ) (goal start : ℕ) (before : List ℕ) where
           ∙ omega (arith, length-append (certificate image table goal start) (drop size before), length-drop size before, w.size_is, room)
 
       -- The checker accepts what stands at the front, for the side that is returned.
-      pub written-accepted : CheckAnswer image table (take size after) goal start (Ch.Accepted side)
+      pub written-accepted : CheckAnswer image table (take size after) goal start (Ok side)
       written-accepted =
-          subst (λ (l : List ℕ). CheckAnswer image table l goal start (Ch.Accepted side)) (sym written-front)
-          (subst (λ (k : ℕ). CheckAnswer image table (certificate image table goal start) goal start (Ch.Accepted k)) (sym w.side_is)
+          subst (λ (l : List ℕ). CheckAnswer image table l goal start (Ok side)) (sym written-front)
+          (subst (λ (k : ℕ). CheckAnswer image table (certificate image table goal start) goal start (Ok k)) (sym w.side_is)
           (certificate-accepted image table goal start (question-clear w.clear)))
 
     -- A refusal changes nothing.
-    pub refused-kept : {k : Refusal} → Answers (An.Refused k) → after ≡ before
+    pub refused-kept : {k : Refusal} → Answers (Err k) → after ≡ before
     refused-kept w = w.kept
 
 -- ---- one answer
 
 module _ (image table : List ℕ) (goal start : ℕ) (before : List ℕ) where
-  never_both : {after left : List ℕ} {side size : ℕ} {k : Refusal} → WriteAnswer image table goal start before after (An.Written side size)
-      → WriteAnswer image table goal start before left (An.Refused k) → ⊥
+  never_both : {after left : List ℕ} {side size : ℕ} {k : Refusal} → WriteAnswer image table goal start before after (Ok (written_as side size))
+      → WriteAnswer image table goal start before left (Err k) → ⊥
   never_both {k = k} w r = clear_none (write_conditions image table goal start before) k w.clear r.given
 
   -- Two answers to one question, with one buffer before, are one, and so are the buffers after.
-  pub write-once : (a b : List ℕ) (r s : Answer) → WriteAnswer image table goal start before a r → WriteAnswer image table goal start before b s
+  pub write-once : (a b : List ℕ) (r s : Result Written Refusal) → WriteAnswer image table goal start before a r → WriteAnswer image table goal start before b s
       → (r ≡ s) × (a ≡ b)
-  write-once a b (An.Written side size) (An.Written side' size') p q =
-      let same : size ≡ size' = p.size_is ∙ sym q.size_is in (
-        ap₂ An.Written (p.side_is ∙ sym q.side_is) same,
+  write-once a b (Ok v) (Ok w) p q =
+      let side : v.side ≡ w.side = p.side_is ∙ sym q.side_is in
+      let same : v.length ≡ w.length = p.size_is ∙ sym q.size_is in (
+        λ i. Ok (written_as (side i) (same i)),
         p.bytes ∙ ap (λ (n : ℕ). certificate image table goal start ++ drop n before) same ∙ sym q.bytes,
       )
-  write-once a b (An.Written side size) (An.Refused k) p q = absurd (never_both p q)
-  write-once a b (An.Refused j) (An.Written side size) p q = absurd (never_both q p)
-  write-once a b (An.Refused j) (An.Refused k) p q =
-      (ap An.Refused (given-one (write_conditions image table goal start before) j k p.given q.given), p.kept ∙ sym q.kept)
+  write-once a b (Ok v) (Err k) p q = absurd (never_both p q)
+  write-once a b (Err j) (Ok w) p q = absurd (never_both q p)
+  write-once a b (Err j) (Err k) p q =
+      (ap Err (given-one (write_conditions image table goal start before) j k p.given q.given), p.kept ∙ sym q.kept)
 
   -- Every question and buffer, whatever the contents and lengths, has one: each condition is decided, and so one refusal is given or none.
   abbrev pub decided : Decided (write_conditions image table goal start before)
@@ -199,9 +199,9 @@ module _ (image table : List ℕ) (goal start : ℕ) (before : List ℕ) where
   abbrev pub Decision : Type 0
   Decision = ((k : Refusal) × Given (write_conditions image table goal start before) k) ⊎ Clear (write_conditions image table goal start before)
 
-  abbrev pub answer_of : Decision → Answer
-  answer_of (inl g) = An.Refused g.0
-  answer_of (inr c) = An.Written (side_for image table goal start) (length (certificate image table goal start))
+  abbrev pub answer_of : Decision → Result Written Refusal
+  answer_of (inl g) = Err g.0
+  answer_of (inr c) = Ok (written_as (side_for image table goal start) (length (certificate image table goal start)))
 
   abbrev pub buffer_of : Decision → List ℕ
   buffer_of (inl g) = before
@@ -211,23 +211,23 @@ module _ (image table : List ℕ) (goal start : ℕ) (before : List ℕ) where
   answer-of (inl g) = record { given = g.1; kept = refl }
   answer-of (inr c) = record { clear = c; side_is = refl; size_is = refl; bytes = refl }
 
-  pub write-answers : (r : Answer) × (after : List ℕ) × WriteAnswer image table goal start before after r
+  pub write-answers : (r : Result Written Refusal) × (after : List ℕ) × WriteAnswer image table goal start before after r
   write-answers =
       let d = outcome (write_conditions image table goal start before) decided in
       (answer_of d, buffer_of d, answer-of d)
 
   -- ---- when each is given
 
-  module _ (after : List ℕ) (r : Answer) (p : WriteAnswer image table goal start before after r) where
+  module _ (after : List ℕ) (r : Result Written Refusal) (p : WriteAnswer image table goal start before after r) where
     -- A refusal comes exactly when document 01 gives it: its condition holds, and no earlier one does.
-    pub write-refused : (k : Refusal) → (r ≡ An.Refused k) ↔ Given (write_conditions image table goal start before) k
+    pub write-refused : (k : Refusal) → (r ≡ Err k) ↔ Given (write_conditions image table goal start before) k
     write-refused k = (
       λ e. (subst (WriteAnswer image table goal start before after) e p).given,
-      λ g. (write-once after before r (An.Refused k) p (record { given = g; kept = refl })).0,
+      λ g. (write-once after before r (Err k) p (record { given = g; kept = refl })).0,
     )
 
     -- A certificate is written exactly when nothing is refused.
-    pub written-exactly : ((side : ℕ) × (size : ℕ) × (r ≡ An.Written side size)) ↔ Clear (write_conditions image table goal start before)
+    pub written-exactly : ((side : ℕ) × (size : ℕ) × (r ≡ Ok (written_as side size))) ↔ Clear (write_conditions image table goal start before)
     written-exactly = (
       λ w. (subst (WriteAnswer image table goal start before after) w.2 p).clear,
       λ c. (
@@ -239,7 +239,7 @@ module _ (image table : List ℕ) (goal start : ℕ) (before : List ℕ) where
 
     -- 14 comes exactly when the certificate is longer than the buffer, over all natural lengths.
     pub given-14 : Clear (question_conditions image table goal start)
-        → (r ≡ An.Refused R.BufferTooShort) ↔ (length before < length (certificate image table goal start))
+        → (r ≡ Err R.BufferTooShort) ↔ (length before < length (certificate image table goal start))
     given-14 clear = (
       λ e. ⊎_elim (λ g. g.1) (λ g. absurd g.1)
           (later (question_conditions image table goal start) clear ((write-refused R.BufferTooShort).0 e)),
@@ -256,11 +256,13 @@ module _ (image table : List ℕ) (goal start : ℕ) (before : List ℕ) where
 -- ---- the coding for callers in C
 
 -- Two answers of one code that leave one length are one.
-pub coded-injective : (lent : ℕ) (r s : Answer) → coded r ≡ coded s → length_after lent r ≡ length_after lent s → r ≡ s
-coded-injective lent (An.Written a m) (An.Written b n) e f = ap₂ An.Written (omega (arith, e)) f
-coded-injective lent (An.Written a m) (An.Refused k) e f = absurd (omega (arith, number_small k))
-coded-injective lent (An.Refused j) (An.Written b n) e f = absurd (omega (arith, number_small j))
-coded-injective lent (An.Refused j) (An.Refused k) e f = ap An.Refused (number-injective j k e)
+pub coded-injective : (lent : ℕ) (r s : Result Written Refusal) → coded r ≡ coded s → length_after lent r ≡ length_after lent s → r ≡ s
+coded-injective lent r s e f = coded_by-told (λ w. w.side) r s own e
+  where
+    own : (a b : Written) → r ≡ Ok a → s ≡ Ok b → a.side ≡ b.side → a ≡ b
+    own a b p q side =
+        let size : a.length ≡ b.length = sym (ap (length_after lent) p) ∙ f ∙ ap (length_after lent) q in
+        λ i. written_as (side i) (size i)
 
 -- Two results that meet the contract of the exported function are one, with their buffers and lengths.
 pub code-once : (image table : List ℕ) (goal start : ℕ) (before a b : List ℕ) (lent l k m n : ℕ) → CodedAnswer image table goal start before a lent l m

@@ -1,6 +1,7 @@
 -- Document 01, writing: the certificate of the side that holds, the refusals 1 to 13 and then 14, and what the buffer holds afterwards.
-use Rattle.std.specs.Prelude.{ℕ, ◌+◌, ◌<◌, ◌≡◌, Bool, true, false, List, [], ◌∷◌, ◌++◌, length, drop}
-use Rattle.format.specs.Refusal.{number, Condition, Given, Clear}
+use Rattle.std.specs.Prelude.{ℕ, ◌<◌, ◌≡◌, Bool, true, false, List, [], ◌∷◌, ◌++◌, length, drop, Result, Ok, Err}
+use Rattle.format.specs.Refusal.{Condition, Given, Clear}
+use Rattle.format.specs.Coded.{coded_by}
 use Rattle.format.specs.Image.{graph_of}
 use Rattle.format.specs.Table.{tree_of}
 use Rattle.format.specs.Question.{question_conditions}
@@ -11,8 +12,7 @@ use Rattle.hand.specs.Side.{sided}
 use Rattle.verdict.specs.Verdict.{goal_test}
 use Rattle.written.specs.Written.{written}
 use Rattle.checker.specs.Header.{header_of}
-use Rattle.writer.specs.declared.answer.Answer.{Answer}
-use Rattle.writer.specs.declared.answer.Answer.TheVariants as An
+use Rattle.writer.specs.declared.answer.Written.{Written}
 
 -- The side that holds: 0, the goal, where its test passes, else 1, its dual. The test decides the meaning over paths: `side-exactly` in `proofs/Promise`
 -- shows that of the two sides this is the one that holds.
@@ -51,21 +51,24 @@ pub record Refused (image table : List ℕ) (goal start : ℕ) (before after : L
   pub given : Given (write_conditions image table goal start before) k
   pub kept : after ≡ before
 
-abbrev pub WriteAnswer : List ℕ → List ℕ → ℕ → ℕ → List ℕ → List ℕ → Answer → Type 0
-WriteAnswer image table goal start before after (An.Written side size) = Certified image table goal start before after side size
-WriteAnswer image table goal start before after (An.Refused k) = Refused image table goal start before after k
+abbrev pub WriteAnswer : List ℕ → List ℕ → ℕ → ℕ → List ℕ → List ℕ → Result Written Refusal → Type 0
+WriteAnswer image table goal start before after (Ok w) = Certified image table goal start before after w.side w.length
+WriteAnswer image table goal start before after (Err k) = Refused image table goal start before after k
+
+-- A certificate of a side and a length.
+abbrev pub written_as : ℕ → ℕ → Written
+written_as side size = record { side = side; length = size }
 
 -- The coding of an answer for callers in C: a refusal is its number, a certificate 128 more than its side; and what a lent number for the length holds.
-abbrev pub coded : Answer → ℕ
-coded (An.Written side size) = 128 + side
-coded (An.Refused k) = number k
+abbrev pub coded : Result Written Refusal → ℕ
+coded = coded_by (λ w. w.side)
 
-abbrev pub length_after : ℕ → Answer → ℕ
-length_after lent (An.Written side size) = size
-length_after lent (An.Refused k) = lent
+abbrev pub length_after : ℕ → Result Written Refusal → ℕ
+length_after lent (Ok w) = w.length
+length_after lent (Err k) = lent
 
 pub record CodedAnswer (image table : List ℕ) (goal start : ℕ) (before after : List ℕ) (lent left r : ℕ) : Type 0 where
-  pub answer : Answer
+  pub answer : Result Written Refusal
   pub says : WriteAnswer image table goal start before after answer
   pub code : r ≡ coded answer
   pub length_is : left ≡ length_after lent answer

@@ -12,7 +12,8 @@ ghost use Rattle.format.specs.Answers.{QuestionRead};
 ghost use Rattle.verdict.specs.Evaluation.{Ready, truth_of};
 ghost use Rattle.writer.specs.Write.{side_by, WriteAnswer, CodedAnswer};
 
-use answer::Answer;
+use answer::Written;
+use format::answer::code;
 use format::question::Question;
 use format::{Refusal, question};
 use hand::env::Env;
@@ -23,18 +24,22 @@ use verdict::setup::Setup;
 
 // Writes the certificate of a goal at a start to the buffer's front, and answers its side and length; or gives the first of the refusals 1 to 13, then
 // 14 where the certificate is longer than the buffer. A refusal changes no byte.
-pub fn write(image: &[u8], table: &[u8], goal: u64, start: u64, buffer: &mut [u8]) -> Answer
+pub fn write(
+    image: &[u8],
+    table: &[u8],
+    goal: u64,
+    start: u64,
+    buffer: &mut [u8],
+) -> Result<Written, Refusal>
     ensures { WriteAnswer image.now table.now goal start buffer.old buffer.new result }
 {
-    match question::read(image, table, goal, start) {
-        Err(k) => Answer::Refused(k),
-        Ok(q) => answered(image, table, q, buffer),
-    }
+    let q = question::read(image, table, goal, start)?;
+    answered(image, table, q, buffer)
 }
 
 // The same of a question that was read: the successor sets are decoded once, the entries are prepared for the side that holds, variable 0 stands at the
 // start, and the others, which the goal does not name, at stage 0.
-fn answered(image: &[u8], table: &[u8], q: Question, buffer: &mut [u8]) -> Answer
+fn answered(image: &[u8], table: &[u8], q: Question, buffer: &mut [u8]) -> Result<Written, Refusal>
     requires { QuestionRead image.now table.now q.goal q.start q }
     ensures { WriteAnswer image.now table.now q.goal q.start buffer.old buffer.new result }
 {
@@ -62,11 +67,11 @@ fn answered(image: &[u8], table: &[u8], q: Question, buffer: &mut [u8]) -> Answe
     };
     let length = pen::whole(&run, q.goal, q.start, env, buffer);
     if buffer.len() < length {
-        return Answer::Refused(Refusal::BufferTooShort);
+        return Err(Refusal::BufferTooShort);
     }
     run.writing = true;
     pen::whole(&run, q.goal, q.start, env, buffer);
-    Answer::Written { side, length }
+    Ok(Written { side, length })
 }
 
 // The side that holds: 0 where the goal does, else 1.
@@ -77,7 +82,7 @@ fn side_of(setup: &Setup<'_>, goal: u8, env: Env) -> u8
     if setup.holds(goal, env) { 0 } else { 1 }
 }
 
-// The writing for callers in C, as one number: `answer::code` says which. The certificate's length goes into a lent number, which a refusal leaves as
+// The writing for callers in C, as one number: `format::answer::code` says which. The certificate's length goes into a lent number, which a refusal leaves as
 // it is.
 pub fn zseq_write(
     image: &[u8],
@@ -91,6 +96,8 @@ pub fn zseq_write(
         length.old length.new result }
 {
     let given = write(image, table, goal, start, buffer);
-    *length = answer::length_or(*length, given);
-    answer::code(given)
+    if let Ok(written) = given {
+        *length = written.length as u64;
+    }
+    code(given)
 }

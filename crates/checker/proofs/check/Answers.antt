@@ -1,11 +1,8 @@
 -- `checker::check` meets its contract: what `checked` answers, without the place.
-use Rattle.checker.proofs.CheckLaws.{side-accepted, refusal-given}
+use Rattle.std.proofs.lemmas.Result.{err_from_is_err_and}
 use Rattle.checker.proofs.check.Goals as goal
 
-pub returns-in-Side : goal.returns-in-Side
-returns-in-Side c =
-    side-accepted c.args.image.now c.args.table.now c.args.certificate.now c.args.goal c.args.start c.in-Side.is c.checked.ensures
-
-pub returns-in-Refused : goal.returns-in-Refused
-returns-in-Refused c =
-    refusal-given c.args.image.now c.args.table.now c.args.certificate.now c.args.goal c.args.start c.in-Refused.is c.checked.ensures
+pub returns-in_err-checked : goal.returns-in_err-checked
+returns-in_err-checked c =
+    let p = err_from_is_err_and c.from_residual.result c.from_residual.ensures.1 in
+    rw (p.1, p.2) c.in_err-checked.ensures.given

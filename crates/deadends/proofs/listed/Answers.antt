@@ -12,7 +12,7 @@ overflow_cast-result c = record { fits = listed-many (number c.minus-dead.result
 
 pub returns : goal.returns
 returns c =
-    let stages-is = all-stages c.requires.0 c.requires.1 c.within_width-stages.ensures in
+    let stages-is = all-stages c.requires.0 c.requires.1 c.min-stages.ensures in
     let row = clear-row c.requires.0 stages-is (lit≤ tt) c.decode.ensures in
     let fired = c.set-fired.ensures ∙ ap (set_of c.args.image.now) c.first_set.ensures.is in
     record {

@@ -3,5 +3,5 @@
 use Rattle.reply.proofs.ReplyLaws.{parts-wrote}
 use Rattle.reply.proofs.write.Goals as goal
 
-pub returns-in-Ok : goal.returns-in-Ok
-returns-in-Ok c = parts-wrote c.in-Ok.p c.write.result c.in-Ok.ensures c.write.ensures
+pub returns : goal.returns
+returns c = parts-wrote c.in_ok-p.p c.write.result c.in_ok-p.ensures c.write.ensures
