@@ -3,7 +3,7 @@
 --     told-true, told-false, choice-of, collects-of, leads-of, nearest-of
 --                                        what the guide says of operands that are read of the entry, said of those of its record
 --     af-now-steps, af-later-steps       AF at a stage
---     noted-new, noted_more, known_past, known-fits
+--     noted-new, noted_more, known_past, known-room
 --                                        the lengths of AF that are noted
 --     eg-begins, eg-merges, eg-goes      EG in a loop
 --     one-ends, two_ends                 no fuel is left
@@ -143,8 +143,8 @@ module _ (run : Run) where
       pub known_past : length l - p < known → Wrote w (af_steps image table side e (env_of env) s) p l l (length l + 1)
       known_past h = rw counts (record { goes = omega (arith, long); leaves = refl })
 
-      pub known-fits : known ≤ length l - p → Wrote w (af_steps image table side e (env_of env) s) p l l (p + known)
-      known-fits h = rw counts (record { goes = omega (arith, long); leaves = refl })
+      pub known-room : known ≤ length l - p → Wrote w (af_steps image table side e (env_of env) s) p l l (p + known)
+      known-room h = rw counts (record { goes = omega (arith, long); leaves = refl })
 
   -- No length is known yet.
   abbrev none-known : List ℕ

@@ -30,6 +30,9 @@ impl Run<'_> {
         requires { Holding self.now.setup.image.now self.now.setup.table.now self.now.side e env }
         ensures { Wrote self.now.writing (entry_steps self.now.setup.image.now self.now.setup.table.now self.now.side e (env_of env)) at out.old out.new result }
     {
+        if out.len() < at {
+            return out.len() + 1;
+        }
         let f = self.entries[e as usize];
         match record::kind_of(f.kind) {
             Kind::True => self.rule(Rule::True, out, at),
@@ -54,12 +57,9 @@ impl Run<'_> {
     // Or: left if it holds, else right.
     #[cycle(af_af_from_af_step_ar_ar_from_ax_eg_eu_ex_formula_or)]
     fn or(&self, e: u8, env: Env, out: &mut [u8], at: usize) -> usize
-        requires { InHand self.now.setup.image.now self.now.setup.table.now self.now.side e env Or }
+        requires { InHand self.now.setup.image.now self.now.setup.table.now self.now.side e env Or × (at ≤ length out.old) }
         ensures { Wrote self.now.writing (entry_steps self.now.setup.image.now self.now.setup.table.now self.now.side e (env_of env)) at out.old out.new result }
     {
-        if out.len() < at {
-            return out.len() + 1;
-        }
         let f = self.entries[e as usize];
         if sides::holds_on(&self.setup, self.side, f.a, env) {
             let on = self.rule(Rule::OrLeft, out, at);
@@ -73,12 +73,9 @@ impl Run<'_> {
     // AX: a at each successor, ascending.
     #[cycle(af_af_from_af_step_ar_ar_from_ax_eg_eu_ex_formula_or)]
     fn ax(&self, e: u8, env: Env, out: &mut [u8], at: usize) -> usize
-        requires { InHand self.now.setup.image.now self.now.setup.table.now self.now.side e env AX }
+        requires { InHand self.now.setup.image.now self.now.setup.table.now self.now.side e env AX × (at ≤ length out.old) }
         ensures { Wrote self.now.writing (entry_steps self.now.setup.image.now self.now.setup.table.now self.now.side e (env_of env)) at out.old out.new result }
     {
-        if out.len() < at {
-            return out.len() + 1;
-        }
         let f = self.entries[e as usize];
         let there = sets::row::load(self.setup.next, env::stage_of(f.t, env) as usize);
         let mut here = self.rule(Rule::Ax, out, at);
@@ -91,12 +88,9 @@ impl Run<'_> {
     // EX: a at the lowest successor at which it holds.
     #[cycle(af_af_from_af_step_ar_ar_from_ax_eg_eu_ex_formula_or)]
     fn ex(&self, e: u8, env: Env, out: &mut [u8], at: usize) -> usize
-        requires { InHand self.now.setup.image.now self.now.setup.table.now self.now.side e env EX }
+        requires { InHand self.now.setup.image.now self.now.setup.table.now self.now.side e env EX × (at ≤ length out.old) }
         ensures { Wrote self.now.writing (entry_steps self.now.setup.image.now self.now.setup.table.now self.now.side e (env_of env)) at out.old out.new result }
     {
-        if out.len() < at {
-            return out.len() + 1;
-        }
         let f = self.entries[e as usize];
         let a = Operand {
             entry: f.a,
@@ -111,12 +105,9 @@ impl Run<'_> {
     // AF, from the start of its walk: it goes now where a holds. No length is known yet.
     #[cycle(af_af_from_af_step_ar_ar_from_ax_eg_eu_ex_formula_or)]
     fn af_from(&self, e: u8, env: Env, out: &mut [u8], at: usize) -> usize
-        requires { InHand self.now.setup.image.now self.now.setup.table.now self.now.side e env AF }
+        requires { InHand self.now.setup.image.now self.now.setup.table.now self.now.side e env AF × (at ≤ length out.old) }
         ensures { Wrote self.now.writing (entry_steps self.now.setup.image.now self.now.setup.table.now self.now.side e (env_of env)) at out.old out.new result }
     {
-        if out.len() < at {
-            return out.len() + 1;
-        }
         let f = self.entries[e as usize];
         let a = Operand {
             entry: f.a,
@@ -199,12 +190,9 @@ impl Run<'_> {
     // EG: a at each stage of a walk, which goes on at the lowest successor at which EG holds, until it merges.
     #[cycle(af_af_from_af_step_ar_ar_from_ax_eg_eu_ex_formula_or)]
     fn eg(&self, e: u8, env: Env, out: &mut [u8], at: usize) -> usize
-        requires { InHand self.now.setup.image.now self.now.setup.table.now self.now.side e env EG }
+        requires { InHand self.now.setup.image.now self.now.setup.table.now self.now.side e env EG × (at ≤ length out.old) }
         ensures { Wrote self.now.writing (entry_steps self.now.setup.image.now self.now.setup.table.now self.now.side e (env_of env)) at out.old out.new result }
     {
-        if out.len() < at {
-            return out.len() + 1;
-        }
         let f = self.entries[e as usize];
         let a = Operand {
             entry: f.a,
@@ -232,12 +220,9 @@ impl Run<'_> {
     // AR, from the start of its walk: it is released where a holds.
     #[cycle(af_af_from_af_step_ar_ar_from_ax_eg_eu_ex_formula_or)]
     fn ar_from(&self, e: u8, env: Env, out: &mut [u8], at: usize) -> usize
-        requires { InHand self.now.setup.image.now self.now.setup.table.now self.now.side e env AR }
+        requires { InHand self.now.setup.image.now self.now.setup.table.now self.now.side e env AR × (at ≤ length out.old) }
         ensures { Wrote self.now.writing (entry_steps self.now.setup.image.now self.now.setup.table.now self.now.side e (env_of env)) at out.old out.new result }
     {
-        if out.len() < at {
-            return out.len() + 1;
-        }
         let f = self.entries[e as usize];
         let a = Operand {
             entry: f.a,
@@ -302,12 +287,9 @@ impl Run<'_> {
     // EU: a at each stage of a walk, which goes on at the successor fewest steps from a now, and there b.
     #[cycle(af_af_from_af_step_ar_ar_from_ax_eg_eu_ex_formula_or)]
     fn eu(&self, e: u8, env: Env, out: &mut [u8], at: usize) -> usize
-        requires { InHand self.now.setup.image.now self.now.setup.table.now self.now.side e env EU }
+        requires { InHand self.now.setup.image.now self.now.setup.table.now self.now.side e env EU × (at ≤ length out.old) }
         ensures { Wrote self.now.writing (entry_steps self.now.setup.image.now self.now.setup.table.now self.now.side e (env_of env)) at out.old out.new result }
     {
-        if out.len() < at {
-            return out.len() + 1;
-        }
         let f = self.entries[e as usize];
         let a = Operand {
             entry: f.a,

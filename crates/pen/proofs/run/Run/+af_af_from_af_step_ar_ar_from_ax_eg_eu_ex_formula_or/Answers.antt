@@ -18,7 +18,7 @@ use Rattle.pen.proofs.KindLaws.{is-not-steps, false-never, no_kind, and_both, an
 use Rattle.pen.proofs.KindLaws.{ex-steps}
 use Rattle.pen.proofs.WriterLaws.{start_is, start-below, ready_of, under, operand-wrote, stop-has, stop-lacks, next-all, walk-has, walk-lacks}
 use Rattle.pen.proofs.WriterLaws.{going_start, going_more, going_end, going_done, same-env, plain-wrote}
-use Rattle.pen.proofs.StepLaws.{collects-of, af-now-steps, af-later-steps, known_past, known-fits, noted-new, noted_more, two_ends, ar-begins, ar-merges}
+use Rattle.pen.proofs.StepLaws.{collects-of, af-now-steps, af-later-steps, known_past, known-room, noted-new, noted_more, two_ends, ar-begins, ar-merges}
 use Rattle.pen.proofs.StepLaws.{ar-releases, ar-goes, leads-of, nearest-of, eg-begins, eg-merges, eg-goes, one-ends, eu-begins, eu-stops, eu-goes, told-true}
 use Rattle.pen.proofs.StepLaws.{told-false, choice-of}
 use Rattle.pen.proofs.AfLaws.{lasts-start, lasts_on}
@@ -34,13 +34,10 @@ use Rattle.pen.proofs.run.Run.+af_af_from_af_step_ar_ar_from_ax_eg_eu_ex_formula
 
 -- ---- `af_from`, `af` and `af_step`: a walk of AF, with the lengths that are noted
 
-pub af_from-returns-then-out-at : goal.af_from-returns-then-out-at
-af_from-returns-then-out-at t c = wrote-past _ _ _ _ c.if-out-at.true
-
 pub af_from-where_on-stop-requires : goal.af_from-where_on-stop-requires
 af_from-where_on-stop-requires t c =
     let run = c.args.self.now in
-    let h = c.requires in
+    let h = c.requires.0 in
     let f = fields run h.holding refl in
     let rule = rule-of run h in
     ready_of run h.holding f.a rule.a
@@ -50,7 +47,7 @@ af_from-af-requires t c =
     let run = c.args.self.now in
     let e = c.args.e in
     let env = c.args.env in
-    let h = c.requires in
+    let h = c.requires.0 in
     let f = fields run h.holding refl in
     let rule = rule-of run h in
     let s-is = start_is run h.holding f c.stage_of-s.ensures in
@@ -70,7 +67,7 @@ af_from-af-requires t c =
 pub af_from-returns : goal.af_from-returns
 af_from-returns t c =
     let run = c.args.self.now in
-    let h = c.requires in
+    let h = c.requires.0 in
     let f = fields run h.holding refl in
     let s-is = start_is run h.holding f c.stage_of-s.ensures in
     wrote-same (ap (af_steps run.setup.image.now run.setup.table.now run.side c.args.e (env_of c.args.env)) s-is ∙ af-start run h)
@@ -93,7 +90,7 @@ af-returns-then-out-at-2 t c =
 pub af-returns-then-known-gt0 : goal.af-returns-then-known-gt0
 af-returns-then-known-gt0 t c =
     let run = c.args.self.now in
-    (known-fits run c.requires _ _ (c.if-not-self.true) c.if-known-gt0.true refl c.if-out-at.false c.if-out-at-2.false, c.requires.noted)
+    (known-room run c.requires _ _ (c.if-not-self.true) c.if-known-gt0.true refl c.if-out-at.false c.if-out-at-2.false, c.requires.noted)
 
 pub af-af_step-end-requires : goal.af-af_step-end-requires
 af-af_step-end-requires t c =
@@ -216,13 +213,10 @@ af_step-returns t c =
 
 -- ---- `ar_from` and `ar`: a walk of AR
 
-pub ar_from-returns-then-out-at : goal.ar_from-returns-then-out-at
-ar_from-returns-then-out-at t c = wrote-past _ _ _ _ c.if-out-at.true
-
 pub ar_from-where_on-stop-requires : goal.ar_from-where_on-stop-requires
 ar_from-where_on-stop-requires t c =
     let run = c.args.self.now in
-    let h = c.requires in
+    let h = c.requires.0 in
     let f = fields run h.holding refl in
     let rule = rule-of run h in
     ready_of run h.holding f.a rule.a
@@ -232,7 +226,7 @@ ar_from-ar-requires t c =
     let run = c.args.self.now in
     let e = c.args.e in
     let env = c.args.env in
-    let h = c.requires in
+    let h = c.requires.0 in
     let f = fields run h.holding refl in
     let rule = rule-of run h in
     let s-is = start_is run h.holding f c.stage_of-s.ensures in
@@ -251,7 +245,7 @@ ar_from-ar-requires t c =
 pub ar_from-returns : goal.ar_from-returns
 ar_from-returns t c =
     let run = c.args.self.now in
-    let h = c.requires in
+    let h = c.requires.0 in
     let f = fields run h.holding refl in
     let s-is = start_is run h.holding f c.stage_of-s.ensures in
     wrote-same (ar-begins run h (omega (arith, run-stages run)) c.empty.ensures s-is) c.ar.ensures
@@ -402,33 +396,30 @@ ar-returns t c =
 
 -- ---- `eg` and `eu`: walks that go on at a chosen successor, in a loop
 
-pub eg-returns-then-out-at : goal.eg-returns-then-out-at
-eg-returns-then-out-at t c = wrote-past _ _ _ _ c.if-out-at.true
-
 pub eg-eg-requires : goal.eg-eg-requires
 eg-eg-requires t c =
     let run = c.args.self.now in
-    let h = c.requires in
+    let h = c.requires.0 in
     let f = fields run h.holding refl in
     (ready_of run h.holding f.a (rule-of run h).a, run.setup.row.room)
 
 pub eg-invariant_of-a : goal.eg-invariant_of-a
 eg-invariant_of-a t c =
     let run = c.args.self.now in
-    let h = c.requires in
+    let h = c.requires.0 in
     let f = fields run h.holding refl in
     omega (arith, f.x, (rule-of run h).x)
 
 pub eg-loop-init : goal.eg-loop-init
 eg-loop-init t c =
     let run = c.args.self.now in
-    let h = c.requires in
+    let h = c.requires.0 in
     let f = fields run h.holding refl in
     let rule = rule-of run h in
     let s-is = start_is run h.holding f c.stage_of-s.ensures in
     let below = start-below run h.holding rule.t in
     record {
-      going = going_start (eg-begins run h (omega (arith, run-stages run)) c.empty-walk.ensures s-is) (omega (arith, c.if-out-at.false));
+      going = going_start (eg-begins run h (omega (arith, run-stages run)) c.empty-walk.ensures s-is) (omega (arith, c.requires.1));
       below = omega (arith, s-is, below);
       holds = subst (λ (s : ℕ). T (Test.eg (graph_of run.setup.image.now) (run-a run c.args.e c.args.env).holds s)) (sym s-is)
           (eg-from run h);
@@ -451,7 +442,7 @@ pub eg-formula-here-requires : goal.eg-formula-here-requires
 eg-formula-here-requires t c =
     let run = c.args.self.now in
     let env = c.args.env in
-    let h = c.requires in
+    let h = c.requires.0 in
     let f = fields run h.holding refl in
     let rule = rule-of run h in
     let c-is = leads-of run env f.a f.x c.loop.invariant.below c.eg.ensures in
@@ -472,7 +463,7 @@ eg-loop-preserved t c =
     let more : run.setup.stages + 1 - c.loop.counter ≡ suc (run.setup.stages + 1 - (c.loop.counter + 1)) = omega (arith, c.loop-test.true) in
     let e = c.args.e in
     let env = c.args.env in
-    let h = c.requires in
+    let h = c.requires.0 in
     let f = fields run h.holding refl in
     let rule = rule-of run h in
     let c-is = leads-of run env f.a f.x c.loop.invariant.below c.eg.ensures in
@@ -494,13 +485,10 @@ eg-returns t c =
     going_done c.loop.invariant.going (one-ends run c.args.e c.args.env Kind.EG _ _ (omega
     (arith, c.loop-test.false)))
 
-pub eu-returns-then-out-at : goal.eu-returns-then-out-at
-eu-returns-then-out-at t c = wrote-past _ _ _ _ c.if-out-at.true
-
 pub eu-eu-now-requires : goal.eu-eu-now-requires
 eu-eu-now-requires t c =
     let run = c.args.self.now in
-    let h = c.requires in
+    let h = c.requires.0 in
     let f = fields run h.holding refl in
     let rule = rule-of run h in
     (ready_of run h.holding f.a rule.a, ready_of run h.holding f.b rule.b, run.setup.row.room, cleared-new run.setup.row.room)
@@ -510,14 +498,14 @@ eu-loop-init t c =
     let run = c.args.self.now in
     let e = c.args.e in
     let env = c.args.env in
-    let h = c.requires in
+    let h = c.requires.0 in
     let f = fields run h.holding refl in
     let rule = rule-of run h in
     let s-is = start_is run h.holding f c.stage_of-s.ensures in
     let below = start-below run h.holding rule.t in
     record {
       walk = empty;
-      going = going_start (eu-begins run h (omega (arith, run-stages run)) s-is) (omega (arith, c.if-out-at.false));
+      going = going_start (eu-begins run h (omega (arith, run-stages run)) s-is) (omega (arith, c.requires.1));
       below = omega (arith, s-is, below);
       holds = subst (λ (s : ℕ). T (Test.eu (graph_of run.setup.image.now) (run-a run e env).holds (run-b run e env).holds s))
           (sym s-is) (eu-from run h);
@@ -526,7 +514,7 @@ eu-loop-init t c =
 pub eu-formula-requires : goal.eu-formula-requires
 eu-formula-requires t c =
     let run = c.args.self.now in
-    let h = c.requires in
+    let h = c.requires.0 in
     let f = fields run h.holding refl in
     let rule = rule-of run h in
     let nows = collects-of run c.args.env f.b f.y c.eu-now.ensures.nows in (
@@ -540,7 +528,7 @@ eu-returns-then-has t c =
     let run = c.args.self.now in
     let more : run.setup.stages + 1 - c.loop.counter ≡ suc (run.setup.stages + 1 - (c.loop.counter + 1)) = omega (arith, c.loop-test.true) in
     let env = c.args.env in
-    let h = c.requires in
+    let h = c.requires.0 in
     let f = fields run h.holding refl in
     let rule = rule-of run h in
     let nows = collects-of run env f.b f.y c.eu-now.ensures.nows in
@@ -559,7 +547,7 @@ eu-formula-here-requires t c =
     let run = c.args.self.now in
     let e = c.args.e in
     let env = c.args.env in
-    let h = c.requires in
+    let h = c.requires.0 in
     let f = fields run h.holding refl in
     let rule = rule-of run h in
     let nows = collects-of run env f.b f.y c.eu-now.ensures.nows in
@@ -577,7 +565,7 @@ eu-loop-preserved t c =
     let more : run.setup.stages + 1 - c.loop.counter ≡ suc (run.setup.stages + 1 - (c.loop.counter + 1)) = omega (arith, c.loop-test.true) in
     let e = c.args.e in
     let env = c.args.env in
-    let h = c.requires in
+    let h = c.requires.0 in
     let f = fields run h.holding refl in
     let rule = rule-of run h in
     let nows = collects-of run env f.b f.y c.eu-now.ensures.nows in
@@ -603,6 +591,9 @@ eu-returns t c =
 
 -- ---- `formula` and `or`: by the kind, and left or right
 
+pub formula-returns-then-out-at : goal.formula-returns-then-out-at
+formula-returns-then-out-at t c = wrote-past _ _ _ _ c.if-out-at.true
+
 pub formula-formula-a-requires : goal.formula-formula-a-requires
 formula-formula-a-requires t c =
     let run = c.args.self.now in
@@ -620,37 +611,37 @@ formula-formula-requires t c =
 pub formula-or-requires : goal.formula-or-requires
 formula-or-requires t c =
     let run = c.args.self.now in
-    (omega (arith, c.decreases), in_arm run c.requires refl c.kind_of.ensures c.in-Or.is)
+    (omega (arith, c.decreases), (in_arm run c.requires refl c.kind_of.ensures c.in-Or.is, c.if-out-at.false))
 
 pub formula-ax-requires : goal.formula-ax-requires
 formula-ax-requires t c =
     let run = c.args.self.now in
-    (omega (arith, c.decreases), in_arm run c.requires refl c.kind_of.ensures c.in-AX.is)
+    (omega (arith, c.decreases), (in_arm run c.requires refl c.kind_of.ensures c.in-AX.is, c.if-out-at.false))
 
 pub formula-ex-requires : goal.formula-ex-requires
 formula-ex-requires t c =
     let run = c.args.self.now in
-    (omega (arith, c.decreases), in_arm run c.requires refl c.kind_of.ensures c.in-EX.is)
+    (omega (arith, c.decreases), (in_arm run c.requires refl c.kind_of.ensures c.in-EX.is, c.if-out-at.false))
 
 pub formula-af_from-requires : goal.formula-af_from-requires
 formula-af_from-requires t c =
     let run = c.args.self.now in
-    (omega (arith, c.decreases), in_arm run c.requires refl c.kind_of.ensures c.in-AF.is)
+    (omega (arith, c.decreases), (in_arm run c.requires refl c.kind_of.ensures c.in-AF.is, c.if-out-at.false))
 
 pub formula-eg-requires : goal.formula-eg-requires
 formula-eg-requires t c =
     let run = c.args.self.now in
-    (omega (arith, c.decreases), in_arm run c.requires refl c.kind_of.ensures c.in-EG.is)
+    (omega (arith, c.decreases), (in_arm run c.requires refl c.kind_of.ensures c.in-EG.is, c.if-out-at.false))
 
 pub formula-ar_from-requires : goal.formula-ar_from-requires
 formula-ar_from-requires t c =
     let run = c.args.self.now in
-    (omega (arith, c.decreases), in_arm run c.requires refl c.kind_of.ensures c.in-AR.is)
+    (omega (arith, c.decreases), (in_arm run c.requires refl c.kind_of.ensures c.in-AR.is, c.if-out-at.false))
 
 pub formula-eu-requires : goal.formula-eu-requires
 formula-eu-requires t c =
     let run = c.args.self.now in
-    (omega (arith, c.decreases), in_arm run c.requires refl c.kind_of.ensures c.in-EU.is)
+    (omega (arith, c.decreases), (in_arm run c.requires refl c.kind_of.ensures c.in-EU.is, c.if-out-at.false))
 
 pub formula-returns-in-True : goal.formula-returns-in-True
 formula-returns-in-True t c =
@@ -706,13 +697,10 @@ formula-returns-in-AR t c = c.ar_from.ensures
 pub formula-returns-in-EU : goal.formula-returns-in-EU
 formula-returns-in-EU t c = c.eu.ensures
 
-pub or-returns-then-out-at : goal.or-returns-then-out-at
-or-returns-then-out-at t c = wrote-past _ _ _ _ c.if-out-at.true
-
 pub or-holds_on-requires : goal.or-holds_on-requires
 or-holds_on-requires t c =
     let run = c.args.self.now in
-    let h = c.requires in
+    let h = c.requires.0 in
     let f = fields run h.holding refl in
     let rule = rule-of run h in
     ready_of run h.holding f.a rule.a
@@ -720,7 +708,7 @@ or-holds_on-requires t c =
 pub or-formula-requires : goal.or-formula-requires
 or-formula-requires t c =
     let run = c.args.self.now in
-    let h = c.requires in
+    let h = c.requires.0 in
     let f = fields run h.holding refl in
     let rule = rule-of run h in (
       omega (arith, c.decreases, f.a, rule.a),
@@ -731,7 +719,7 @@ or-formula-requires t c =
 pub or-returns-then-holds_on : goal.or-returns-then-holds_on
 or-returns-then-holds_on t c =
     let run = c.args.self.now in
-    let h = c.requires in
+    let h = c.requires.0 in
     let f = fields run h.holding refl in
     wrote-same (left-steps run h (told-true run c.args.env f.a c.holds_on.ensures c.if-holds_on.true))
     (wrote-both c.rule-on.ensures (plain-wrote run f.a _ c.formula.ensures))
@@ -739,7 +727,7 @@ or-returns-then-holds_on t c =
 pub or-formula-requires-else-holds_on : goal.or-formula-requires-else-holds_on
 or-formula-requires-else-holds_on t c =
     let run = c.args.self.now in
-    let h = c.requires in
+    let h = c.requires.0 in
     let f = fields run h.holding refl in
     let rule = rule-of run h in (
       omega (arith, c.decreases, f.b, rule.b),
@@ -750,7 +738,7 @@ or-formula-requires-else-holds_on t c =
 pub or-returns-else-holds_on : goal.or-returns-else-holds_on
 or-returns-else-holds_on t c =
     let run = c.args.self.now in
-    let h = c.requires in
+    let h = c.requires.0 in
     let f = fields run h.holding refl in
     wrote-same (right-steps run h (told-false run c.args.env f.a c.holds_on.ensures c.if-holds_on.false))
     (wrote-both c.rule-on-else-holds_on.ensures (plain-wrote run f.b _
@@ -758,13 +746,10 @@ or-returns-else-holds_on t c =
 
 -- ---- `ax` and `ex`: at each successor, and at a chosen one
 
-pub ax-returns-then-out-at : goal.ax-returns-then-out-at
-ax-returns-then-out-at t c = wrote-past _ _ _ _ c.if-out-at.true
-
 pub ax-loop-t-init : goal.ax-loop-t-init
 ax-loop-t-init t c =
     let run = c.args.self.now in
-    let h = c.requires in
+    let h = c.requires.0 in
     let f = fields run h.holding refl in
     let rule = rule-of run h in
     let row = run-row run in
@@ -775,7 +760,7 @@ ax-loop-t-init t c =
 pub ax-overflow_cast-t : goal.ax-overflow_cast-t
 ax-overflow_cast-t t c =
     let run = c.args.self.now in
-    let h = c.requires in
+    let h = c.requires.0 in
     let rule = rule-of run h in
     let row = run-row run in
     let below = start-below run h.holding rule.t in
@@ -785,7 +770,7 @@ ax-overflow_cast-t t c =
 pub ax-formula-here-requires : goal.ax-formula-here-requires
 ax-formula-here-requires t c =
     let run = c.args.self.now in
-    let h = c.requires in
+    let h = c.requires.0 in
     let f = fields run h.holding refl in
     let rule = rule-of run h in
     let row = run-row run in
@@ -800,7 +785,7 @@ ax-formula-here-requires t c =
 pub ax-loop-t-preserved : goal.ax-loop-t-preserved
 ax-loop-t-preserved t c =
     let run = c.args.self.now in
-    let h = c.requires in
+    let h = c.requires.0 in
     let f = fields run h.holding refl in
     let rule = rule-of run h in
     let row = run-row run in
@@ -812,7 +797,7 @@ ax-loop-t-preserved t c =
 pub ax-returns : goal.ax-returns
 ax-returns t c =
     let run = c.args.self.now in
-    let h = c.requires in
+    let h = c.requires.0 in
     let rule = rule-of run h in
     let row = run-row run in
     let below = start-below run h.holding rule.t in
@@ -820,13 +805,10 @@ ax-returns t c =
     (wrote-both c.rule-here.ensures
     (each-end row below _ _ _ _ c.loop-t.invariant c.in-None.ensures.steps.0))
 
-pub ex-returns-then-out-at : goal.ex-returns-then-out-at
-ex-returns-then-out-at t c = wrote-past _ _ _ _ c.if-out-at.true
-
 pub ex-ex-c-requires : goal.ex-ex-c-requires
 ex-ex-c-requires t c =
     let run = c.args.self.now in
-    let h = c.requires in
+    let h = c.requires.0 in
     let f = fields run h.holding refl in
     let rule = rule-of run h in
     let s-is = start_is run h.holding f c.stage_of.ensures in
@@ -837,7 +819,7 @@ pub ex-formula-requires : goal.ex-formula-requires
 ex-formula-requires t c =
     let run = c.args.self.now in
     let env = c.args.env in
-    let h = c.requires in
+    let h = c.requires.0 in
     let f = fields run h.holding refl in
     let rule = rule-of run h in
     let s-is = start_is run h.holding f c.stage_of.ensures in
@@ -852,7 +834,7 @@ pub ex-returns : goal.ex-returns
 ex-returns t c =
     let run = c.args.self.now in
     let env = c.args.env in
-    let h = c.requires in
+    let h = c.requires.0 in
     let f = fields run h.holding refl in
     let rule = rule-of run h in
     let s-is = start_is run h.holding f c.stage_of.ensures in
@@ -865,34 +847,34 @@ ex-returns t c =
 pub af_from-invariant_of-a : goal.af_from-invariant_of-a
 af_from-invariant_of-a t c =
     let run = c.args.self.now in
-    let h = c.requires in
+    let h = c.requires.0 in
     let f = fields run h.holding refl in
     omega (arith, f.x, (rule-of run h).x)
 
 pub ar_from-invariant_of-a : goal.ar_from-invariant_of-a
 ar_from-invariant_of-a t c =
     let run = c.args.self.now in
-    let h = c.requires in
+    let h = c.requires.0 in
     let f = fields run h.holding refl in
     omega (arith, f.x, (rule-of run h).x)
 
 pub eu-invariant_of-a : goal.eu-invariant_of-a
 eu-invariant_of-a t c =
     let run = c.args.self.now in
-    let h = c.requires in
+    let h = c.requires.0 in
     let f = fields run h.holding refl in
     omega (arith, f.x, (rule-of run h).x)
 
 pub eu-invariant_of-b : goal.eu-invariant_of-b
 eu-invariant_of-b t c =
     let run = c.args.self.now in
-    let h = c.requires in
+    let h = c.requires.0 in
     let f = fields run h.holding refl in
     omega (arith, f.y, (rule-of run h).y)
 
 pub ex-invariant_of-a : goal.ex-invariant_of-a
 ex-invariant_of-a t c =
     let run = c.args.self.now in
-    let h = c.requires in
+    let h = c.requires.0 in
     let f = fields run h.holding refl in
     omega (arith, f.x, (rule-of run h).x)
