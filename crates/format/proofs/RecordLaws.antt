@@ -1,35 +1,17 @@
--- What the proofs of the records' rules cite: what a term is not, an entry past the table's end, and kinds above 11.
+-- What the proofs of the records' rules cite: an entry past the table's end, and kinds above 11.
 use Prim.Native.Nat.{ℕ, suc, ◌+◌, ◌*◌, ◌/◌, ◌≤◌, ◌<◌}
 use native.Mathlib.Omega.{arith}
-use mathlib.Core.Path.{◌≡◌, sym, subst, subst⁻¹}
+use mathlib.Core.Path.{◌≡◌, sym, subst⁻¹}
 use mathlib.Core.Bool.{Bool}
 use mathlib.Core.List.{List, [], ◌∷◌}
 use lib.ListN.{length, get_or-eq_default}
 use Rattle.model.specs.Decides.{Decides}
 use Rattle.format.specs.Bytes.{byte_at}
-use Rattle.format.specs.Table.{IsTerm, a_stage, a_variable, SecondTerm, unused, used, record_at, kind_of, sort_of, RuledAs, Ruled}
+use Rattle.format.specs.Table.{record_at, kind_of, sort_of, RuledAs, Ruled}
 use Rattle.format.specs.declared.record.Record.{Record}
 use Rattle.format.specs.declared.record.Sort.{Sort}
 use Rattle.format.specs.declared.record.Kind.{Kind}
 use Rattle.format.specs.declared.record.Kind.TheVariants as K
-
--- No term lies from n up to 63, and none above 67.
-pub no-term-between : {n t : ℕ} → n ≤ t → t < 64 → IsTerm n t → ⊥
-no-term-between h g (a_stage p) = omega arith
-no-term-between h g (a_variable p q) = omega arith
-
-pub no-term-above : {n t : ℕ} → n ≤ t → 67 < t → IsTerm n t → ⊥
-no-term-above h g (a_stage p) = omega arith
-no-term-above h g (a_variable p q) = omega arith
-
--- The second term of an atom of another arity than 2 is 0; that of arity 2 is a term.
-pub second-unused : {n arity b : ℕ} → (arity ≡ 2 → ⊥) → SecondTerm n arity b → b ≡ 0
-second-unused f (unused g e) = e
-second-unused f (used e t) = absurd (f e)
-
-pub second-used : {n arity b : ℕ} → arity ≡ 2 → SecondTerm n arity b → IsTerm n b
-second-used e (unused g d) = absurd (g e)
-second-used e (used d t) = t
 
 -- A byte past the end counts as 0.
 past : (table : List ℕ) (i : ℕ) → length table ≤ i → 0 ≡ byte_at table i
@@ -67,8 +49,3 @@ pub by_row : (row : Sort) (image : List ℕ) (e : ℕ) (r : Record) (ok : Bool) 
 by_row row image e r ok kind found kind-is found-is is d =
     let same : sort_of (kind_of r.kind) ≡ row = cc in
     subst⁻¹ (λ (s : Sort). Decides ok (RuledAs s image e r)) same d
-
--- What is decided of an entry's record as the code read it is decided of the entry.
-pub ruled-at : (image table : List ℕ) (e : ℕ) (r : Record) (ok : Bool) → r ≡ record_at table e → Decides ok (Ruled image e r)
-    → Decides ok (Ruled image e (record_at table e))
-ruled-at image table e r ok r-is d = subst (λ (x : Record). Decides ok (Ruled image e x)) r-is d

@@ -3,19 +3,19 @@
 -- Assumes nothing.
 use Prim.Native.Nat.{ℕ, zero, suc, max, ◌+◌, ◌≤◌, ◌<◌}
 use native.Mathlib.Omega.{arith}
-use mathlib.Core.Path.{◌≡◌, refl, ap, ◌∙◌, subst}
+use mathlib.Core.Path.{◌≡◌, refl, sym, ap, ◌∙◌, subst}
+use mathlib.Core.Bool.{Bool, true, false}
+use Rattle.std.proofs.lemmas.Bool.{false≢true}
 use mathlib.Core.List.{List, [], ◌∷◌, ◌++◌}
 use mathlib.Core.Logic.{◌⊎◌, inl, inr, ⊎_elim}
 use lib.ListN.{length, get_or}
 use Rattle.model.specs.Formula.{nesting}
-use Rattle.sets.proofs.LawsMember.{same?}
 use Rattle.format.specs.Table.{record_at, entries_of, kind_of, sort_of, RuledAs, Ruled, operands_as, operands_in, operands, nth, trees, tree_of}
 use Rattle.format.specs.Table.{EntriesFit, BadRecord, NestedTooDeep}
-use Rattle.format.specs.Reading.{In, Flagged, Roots, DeepRoot}
+use Rattle.format.specs.Reading.{In, Flagged, Nested, Roots, DeepRoot}
 use Rattle.format.specs.declared.record.Record.{Record}
 use Rattle.format.specs.declared.record.Sort.{Sort}
 use Rattle.format.specs.declared.record.Sort.TheVariants as S
-use Rattle.format.specs.declared.operands.Flags.{Flags}
 use Rattle.format.proofs.ReadingLaws.{all-ruled}
 use Rattle.format.proofs.TreeLaws.{tree-made, tree-at, nesting_as, nesting-made}
 
@@ -72,7 +72,11 @@ nests-lower image table e o rule p =
       ),
     )
 
-module _ (image table seen : List ℕ) (roots : Roots image table seen) (none : (k : ℕ) → k < entries_of table → DeepRoot image table seen k → ⊥) where
+flag? : (b : Bool) → (b ≡ true) ⊎ (b ≡ false)
+flag? true = inl refl
+flag? false = inr refl
+
+module _ (image table : List ℕ) (seen : List Bool) (roots : Roots image table seen) (none : (k : ℕ) → k < entries_of table → DeepRoot image table seen k → ⊥) where
   -- From any entry a way up, to ever higher numbers, ends at an entry that is operand of none.
   none-upward : (d k : ℕ) → entries_of table ≤ k + d → k < entries_of table → 4 < nesting (tree_of image table k) → ⊥
   none-upward zero k h l deep = omega arith
@@ -82,15 +86,29 @@ module _ (image table seen : List ℕ) (roots : Roots image table seen) (none : 
       let p = operand-of table (entries_of table) k (roots.flagged k l flag) in
       let up = nests-lower image table p.0 k (roots.ruled p.0 p.1) p.2 in
       none-upward d p.0 (omega (arith, up.0)) p.1 (omega (arith, up.1)))
-      (λ root. none k l (record { root = root; deep = deep }))
-      (same? (get_or seen k 0) 1)
+      (λ root. none k l (record { root = λ flag. false≢true (sym root ∙ flag); deep = deep }))
+      (flag? (get_or seen k false))
 
   -- Where no entry that is operand of none nests too deep, no entry does.
   pub none_deep : NestedTooDeep image table → ⊥
   none_deep deep = none-upward (entries_of table) deep.entry (omega arith) deep.below deep.deep
 
+-- What the code asks of an entry: whether it has a flag, and how deep its formula nests.
+pub deep-root : (image : List ℕ) {table : List ℕ} {seen : List Bool} {e x : ℕ} → get_or seen e false ≡ false → Nested table e x → 4 < x
+    → DeepRoot image table seen e
+deep-root image new nested deep = record { root = λ flag. false≢true (sym new ∙ flag); deep = omega (arith, nested.is image) }
+
+pub flag-no-root : (image : List ℕ) {table : List ℕ} {seen : List Bool} {e : ℕ} → get_or seen e false ≡ true → DeepRoot image table seen e → ⊥
+flag-no-root image flag root = root.root flag
+
+pub flat-no-root : (image : List ℕ) {table : List ℕ} {seen : List Bool} {e x : ℕ} → Nested table e x → x ≤ 4 → DeepRoot image table seen e → ⊥
+flat-no-root image nested flat root = omega (arith, nested.is image, root.deep)
+
 -- The flags of all operands of a table without a bad record say what is asked.
-pub roots-of : (image table : List ℕ) (f : Flags) → EntriesFit table → (BadRecord image table → ⊥) → Flagged (operands table (entries_of table)) f
-    → Roots image table f.seen
-roots-of image table f fits good was =
-    record { ruled = all-ruled image table good; flagged = λ o h flag. (was.seen o (omega (arith, fits.most))).0 flag }
+pub roots-of : (image table : List ℕ) {seen : List Bool} → EntriesFit table → (BadRecord image table → ⊥) → Flagged (operands table (entries_of table)) seen
+    → Roots image table seen
+roots-of image table fits good was = record {
+  most = fits.most;
+  ruled = all-ruled image table good;
+  flagged = λ o h flag. (was.seen o (omega (arith, fits.most))).0 flag;
+}

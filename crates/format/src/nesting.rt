@@ -2,7 +2,7 @@
 ghost use Rattle.std.specs.Prelude.{◌≡◌, max};
 ghost use Rattle.model.specs.Decides.{Decides};
 ghost use Rattle.format.specs.Table.{NestedTooDeep};
-ghost use Rattle.format.specs.Reading.{Nested, NestedBelow, DeepRoot, Roots};
+ghost use Rattle.format.specs.Reading.{Nested, NestedBelow, Roots};
 
 use crate::record::Sort;
 use crate::{byte, record};
@@ -30,19 +30,12 @@ fn nested_below(table: &[u8], e: u8, o: u8) -> usize
     if o < e { nested(table, o) } else { 0 }
 }
 
-// Whether an entry is operand of none, as the flags say, and its formula nests over 4 modalities.
-fn deep_root(image: &[u8], table: &[u8], seen: &[u8], e: u8) -> bool
-    ensures { Decides result (DeepRoot image.now table.now seen.now e) }
-{
-    byte(seen, e as usize) != 1 && 4 < nested(table, e)
-}
-
-// Whether some formula nests over 4 modalities. Only entries that are operands of none are asked: an operand's formula nests no deeper than
-// the one that it stands in.
-pub(crate) fn nested_too_deep(image: &[u8], table: &[u8], seen: &[u8]) -> bool
+// Whether some formula nests over 4 modalities. Only entries that are operands of none, as the flags say, are asked: an operand's formula nests no
+// deeper than the one that it stands in.
+pub(crate) fn nested_too_deep(image: &[u8], table: &[u8], seen: &[bool; 64]) -> bool
     requires { Roots image.now table.now seen.now }
     ensures { Decides result (NestedTooDeep image.now table.now) }
 {
     let m = byte(table, 5);
-    (0..m).any(|e| deep_root(image, table, seen, e))
+    (0..m).any(|e| !seen[e as usize] && 4 < nested(table, e))
 }

@@ -1,59 +1,47 @@
-// Which entries are operands in the whole table, and whether one is so twice: a flag for each entry.
+// Which entries are operands in the whole table: a flag for each, as far as none is so twice.
 ghost use Rattle.std.specs.Prelude.{◌<◌, [], ◌∷◌};
 ghost use Rattle.format.specs.Table.{operands_in, operands, entries_of};
-ghost use Rattle.format.specs.Reading.{Flagged, Noted, OperandsSmall, AllSmall};
+ghost use Rattle.format.specs.Reading.{FlagsAnswer, Noted, OperandsSmall, AllSmall};
 
 use crate::record::{Record, Sort};
-use crate::{byte, record};
+use crate::{Refusal, byte, record};
 
-// Which entries were met as operands, a flag for each, and whether one was met twice.
-#[derive(Clone, Copy)]
-pub struct Flags {
-    pub(crate) seen: [u8; 64],
-    pub(crate) twice: bool,
-}
-
-fn noted(f: Flags, o: u8) -> Flags
+// Gives an operand its flag; refused where it has that already.
+fn noted(seen: &mut [bool; 64], o: u8) -> Result<(), Refusal>
     requires { o < 64 }
-    ensures { Noted f (o ∷ []) result }
+    ensures { Noted seen.old (o ∷ []) seen.new result }
 {
-    let at = o as usize;
-    let mut g = f;
-    if g.seen[at] == 1 {
-        g.twice = true;
-    } else {
-        g.seen[at] = 1;
+    if seen[o as usize] {
+        return Err(Refusal::OperandTwice);
     }
-    g
+    seen[o as usize] = true;
+    Ok(())
 }
 
-fn noted_operands(f: Flags, r: Record) -> Flags
+// The same of all operands of a record.
+fn noted_operands(seen: &mut [bool; 64], r: Record) -> Result<(), Refusal>
     requires { OperandsSmall (operands_in r) }
-    ensures { Noted f (operands_in r) result }
+    ensures { Noted seen.old (operands_in r) seen.new result }
 {
-    let sort = record::sort_of(record::kind_of(r.kind));
-    match sort {
-        Sort::Constant => f,
-        Sort::Atom => f,
-        Sort::Junction => noted(noted(f, r.a), r.b),
-        Sort::Unary => noted(f, r.a),
-        Sort::Binary => noted(noted(f, r.a), r.b),
-        Sort::NoSort => f,
+    match record::sort_of(record::kind_of(r.kind)) {
+        Sort::Constant | Sort::Atom | Sort::NoSort => Ok(()),
+        Sort::Unary => noted(seen, r.a),
+        Sort::Junction | Sort::Binary => {
+            noted(seen, r.a)?;
+            noted(seen, r.b)
+        }
     }
 }
 
-// The flags of all operands of the table.
-pub(crate) fn noted_all(table: &[u8]) -> Flags
+// The flags of all operands of the table; refused where one is met twice.
+pub(crate) fn noted_all(table: &[u8]) -> Result<[bool; 64], Refusal>
     requires { AllSmall table.now }
-    ensures { Flagged (operands table.now (entries_of table.now)) result }
+    ensures { FlagsAnswer (operands table.now (entries_of table.now)) result }
 {
     let m = byte(table, 5);
-    let mut f = Flags {
-        seen: [0; 64],
-        twice: false,
-    };
+    let mut seen = [false; 64];
     for e in 0..m {
-        f = noted_operands(f, record::entry(table, e as usize));
+        noted_operands(&mut seen, record::entry(table, e as usize))?;
     }
-    f
+    Ok(seen)
 }

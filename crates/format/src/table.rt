@@ -26,11 +26,7 @@ pub fn read(image: &[u8], table: &[u8]) -> Result<Shape, Refusal>
     if bad_record(image, table) {
         return Err(Refusal::BadRecord);
     }
-    let flags = operands::noted_all(table);
-    if flags.twice {
-        return Err(Refusal::OperandTwice);
-    }
-    let seen = flags.seen;
+    let seen = operands::noted_all(table)?;
     if nesting::nested_too_deep(image, table, &seen) {
         return Err(Refusal::NestedTooDeep);
     }

@@ -1,24 +1,32 @@
 -- `format::operands::noted_all` meets its contract: the loop has noted the operands of the first e entries.
 -- Assumes nothing.
-use mathlib.Core.Path.{subst⁻¹}
+use Prim.Native.Nat.{ℕ}
+use mathlib.Core.Path.{subst, subst⁻¹}
 use native.Mathlib.Omega.{arith}
-use Rattle.format.specs.Table.{operands, operands_in}
-use Rattle.format.specs.Reading.{OperandsSmall}
-use Rattle.format.specs.declared.record.Record.{Record}
-use Rattle.format.proofs.OperandLaws.{flagged-none, noted-entry, flagged-all}
 use borrow.Author.Rules.{rules}
+use Rattle.std.proofs.lemmas.Result.{err_from_is_err_and}
+use Rattle.format.specs.Table.{operands, operands_in}
+use Rattle.format.specs.Reading.{OperandsSmall, Flagged}
+use Rattle.format.specs.declared.record.Record.{Record}
+use Rattle.format.proofs.OperandLaws.{flagged-none, flagged-entry, twice-entry}
 use Rattle.format.proofs.operands.noted_all.Goals as goal
 
 pub loop-e-init : goal.loop-e-init
 unfolding operands
 loop-e-init c = (search rules, flagged-none)
 
-pub noted_operands-f-requires : goal.noted_operands-f-requires
-noted_operands-f-requires c =
+pub noted_operands-requires : goal.noted_operands-requires
+noted_operands-requires c =
     subst⁻¹ (λ (r : Record). OperandsSmall (operands_in r)) c.entry.ensures (c.requires c.loop-e.e (omega (arith, c.byte-m.ensures)))
 
+pub returns-in_err-noted_operands : goal.returns-in_err-noted_operands
+returns-in_err-noted_operands c =
+    let p = err_from_is_err_and c.from_residual.result c.from_residual.ensures.1 in
+    let found = c.in_err-noted_operands.ensures in
+    rw (p.1, p.2) (found.0, twice-entry _ _ _ c.entry.ensures (omega (arith, c.byte-m.ensures)) (found.1 _ c.loop-e.invariant.1))
+
 pub loop-e-preserved : goal.loop-e-preserved
-loop-e-preserved c = (omega arith, noted-entry _ _ _ _ _ c.entry.ensures c.noted_operands-f.ensures c.loop-e.invariant.1)
+loop-e-preserved c = (omega arith, flagged-entry _ _ c.entry.ensures c.in_ok-noted_operands.ensures c.loop-e.invariant.1)
 
 pub returns : goal.returns
-returns c = flagged-all _ _ _ _ (omega arith) c.byte-m.ensures c.loop-e.invariant.1
+returns c = subst (λ (k : ℕ). Flagged (operands c.args.table.now k) c.loop-e.seen) (omega (arith, c.byte-m.ensures)) c.loop-e.invariant.1

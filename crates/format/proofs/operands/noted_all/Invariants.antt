@@ -6,4 +6,4 @@ use Rattle.format.specs.Reading.{Flagged}
 use Rattle.format.proofs.operands.noted_all.Given as goal
 
 abbrev pub invariant-loop-e : goal.invariant-loop-e
-invariant-loop-e l = (l.e ≤ l.m) × Flagged (operands l.table l.e) l.f
+invariant-loop-e l = (l.e ≤ l.m) × Flagged (operands l.table l.e) l.seen

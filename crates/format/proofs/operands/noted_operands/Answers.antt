@@ -1,59 +1,27 @@
--- `format::operands::noted_operands` meets its contract: the record's row of kinds says which fields are operands.
+-- `format::operands::noted_operands` meets its contract: two operands are noted one after the other.
 -- Assumes nothing.
+use mathlib.Core.Path.{◌≡◌}
+use mathlib.Core.List.{[], ◌∷◌}
+use mathlib.Core.Logic.{inl, inr}
+use Rattle.std.proofs.lemmas.Result.{err_from_is_err_and}
+use Rattle.format.specs.Table.{operands_in}
 use Rattle.format.specs.declared.record.Sort.TheVariants as S
-use Rattle.format.proofs.OperandLaws.{operands-by, noted-by, noted-none, noted-two, small-first, small-second}
+use Rattle.format.proofs.OperandLaws.{operands-by, noted-two, noted-once}
 use Rattle.format.proofs.operands.noted_operands.Goals as goal
+use Rattle.format.proofs.operands.noted_operands.Goals.{In-Junction}
 
-pub noted-requires : goal.noted-requires
-noted-requires c =
-    small-first c.args.r (operands-by S.Junction c.args.r _ _ c.kind_of.ensures c.sort_of-sort.ensures c.in-Junction.is) (c.requires)
+-- Both rows of kinds have the operands a and b.
+both : (c : In-Junction) → operands_in c.args.r ≡ c.args.r.a ∷ c.args.r.b ∷ []
+both c = elim c.in-Junction.is [
+  | inl e ↦ operands-by S.Junction c.args.r _ _ c.kind_of.ensures c.sort_of.ensures e
+  | inr e ↦ operands-by S.Binary c.args.r _ _ c.kind_of.ensures c.sort_of.ensures e
+]
 
-pub noted-requires-in-Junction : goal.noted-requires-in-Junction
-noted-requires-in-Junction c =
-    small-second c.args.r (operands-by S.Junction c.args.r _ _ c.kind_of.ensures c.sort_of-sort.ensures c.in-Junction.is) (c.requires)
+pub returns-in_err-noted-in-Junction : goal.returns-in_err-noted-in-Junction
+returns-in_err-noted-in-Junction c =
+    let p = err_from_is_err_and c.from_residual.result c.from_residual.ensures.1 in
+    rw (p.1, p.2, both (goal.at.returns-in_err-noted-in-Junction c).In-Junction) (noted-once _ c.noted-in-Junction.new.seen _ _ _ c.in_err-noted-in-Junction.ensures)
 
-pub noted-requires-in-Unary : goal.noted-requires-in-Unary
-noted-requires-in-Unary c =
-    small-first c.args.r (operands-by S.Unary c.args.r _ _ c.kind_of.ensures c.sort_of-sort.ensures c.in-Unary.is) (c.requires)
-
-pub noted-requires-in-Binary : goal.noted-requires-in-Binary
-noted-requires-in-Binary c =
-    small-first c.args.r (operands-by S.Binary c.args.r _ _ c.kind_of.ensures c.sort_of-sort.ensures c.in-Binary.is) (c.requires)
-
-pub noted-requires-in-Binary-2 : goal.noted-requires-in-Binary-2
-noted-requires-in-Binary-2 c =
-    small-second c.args.r (operands-by S.Binary c.args.r _ _ c.kind_of.ensures c.sort_of-sort.ensures c.in-Binary.is) (c.requires)
-
-pub returns-in-Constant : goal.returns-in-Constant
-returns-in-Constant c =
-    noted-by c.args.f c.args.f c.args.r _
-    (operands-by S.Constant c.args.r _ _ c.kind_of.ensures c.sort_of-sort.ensures c.in-Constant.is)
-    (noted-none c.args.f)
-
-pub returns-in-Atom : goal.returns-in-Atom
-returns-in-Atom c =
-    noted-by c.args.f c.args.f c.args.r _
-    (operands-by S.Atom c.args.r _ _ c.kind_of.ensures c.sort_of-sort.ensures c.in-Atom.is)
-    (noted-none c.args.f)
-
-pub returns-in-Junction : goal.returns-in-Junction
-returns-in-Junction c =
-    noted-by c.args.f c.noted-in-Junction.result c.args.r _ (operands-by S.Junction c.args.r _ _ c.kind_of.ensures c.sort_of-sort.ensures c.in-Junction.is)
-    (noted-two c.args.f c.noted.result c.noted-in-Junction.result _ _ c.noted.ensures c.noted-in-Junction.ensures)
-
-pub returns-in-Unary : goal.returns-in-Unary
-returns-in-Unary c =
-    noted-by c.args.f c.noted-in-Unary.result c.args.r _
-    (operands-by S.Unary c.args.r _ _ c.kind_of.ensures c.sort_of-sort.ensures c.in-Unary.is)
-    c.noted-in-Unary.ensures
-
-pub returns-in-Binary : goal.returns-in-Binary
-returns-in-Binary c =
-    noted-by c.args.f c.noted-in-Binary-2.result c.args.r _ (operands-by S.Binary c.args.r _ _ c.kind_of.ensures c.sort_of-sort.ensures c.in-Binary.is)
-    (noted-two c.args.f c.noted-in-Binary.result c.noted-in-Binary-2.result _ _ c.noted-in-Binary.ensures c.noted-in-Binary-2.ensures)
-
-pub returns-in-NoSort : goal.returns-in-NoSort
-returns-in-NoSort c =
-    noted-by c.args.f c.args.f c.args.r _
-    (operands-by S.NoSort c.args.r _ _ c.kind_of.ensures c.sort_of-sort.ensures c.in-NoSort.is)
-    (noted-none c.args.f)
+pub returns-in_ok-noted-in-Junction : goal.returns-in_ok-noted-in-Junction
+returns-in_ok-noted-in-Junction c =
+    rw (both (goal.at.returns-in_ok-noted-in-Junction c).In-Junction) (noted-two _ _ _ _ _ c.noted-in-Junction-2.result c.in_ok-noted-in-Junction.ensures c.noted-in-Junction-2.ensures)

@@ -47,31 +47,32 @@ returns-then-bad_record c =
       ),
     ))
 
-pub noted_all-flags-requires : goal.noted_all-flags-requires
-noted_all-flags-requires c =
+pub noted_all-requires : goal.noted_all-requires
+noted_all-requires c =
     all_small c.args.image.now c.args.table.now (decided _ c.entries_fit.ensures c.if-not-entries_fit.false)
     (refuted _ c.bad_record.ensures c.if-bad_record.false)
 
-pub returns-then-flags : goal.returns-then-flags
-returns-then-flags c =
+pub returns-in_err-seen : goal.returns-in_err-seen
+returns-in_err-seen c =
     let image = c.args.image.now in
     let table = c.args.table.now in
-    given-later (image_conditions image) (table_conditions image table) R.OperandTwice c.in_ok-shape.ensures.clear
+    let p = err_from_is_err_and c.from_residual-in_err-seen.result c.from_residual-in_err-seen.ensures.1 in
+    rw (p.1, p.2) (given-later (image_conditions image) (table_conditions image table) _ c.in_ok-shape.ensures.clear
     (inr (
       passed (decided _ c.begins.ensures c.if-not-begins.false),
       inr (
         passed (decided _ c.entries_fit.ensures c.if-not-entries_fit.false),
         inr (
           refuted _ c.bad_record.ensures c.if-bad_record.false,
-          inl (refl, decided _ c.noted_all-flags.ensures.twice c.if-flags.true),
+          inl c.in_err-seen.ensures,
         ),
       ),
-    ))
+    )))
 
 pub nested_too_deep-requires : goal.nested_too_deep-requires
 nested_too_deep-requires c =
-    roots-of c.args.image.now c.args.table.now c.noted_all-flags.result (decided _ c.entries_fit.ensures c.if-not-entries_fit.false)
-    (refuted _ c.bad_record.ensures c.if-bad_record.false) c.noted_all-flags.ensures
+    roots-of c.args.image.now c.args.table.now (decided _ c.entries_fit.ensures c.if-not-entries_fit.false)
+    (refuted _ c.bad_record.ensures c.if-bad_record.false) c.in_ok-seen.ensures
 
 pub returns-then-nested_too_deep : goal.returns-then-nested_too_deep
 returns-then-nested_too_deep c =
@@ -85,7 +86,7 @@ returns-then-nested_too_deep c =
         inr (
           refuted _ c.bad_record.ensures c.if-bad_record.false,
           inr (
-            refuted _ c.noted_all-flags.ensures.twice c.if-flags.false,
+            c.in_ok-seen.ensures.once,
             inl (refl, decided _ c.nested_too_deep.ensures c.if-nested_too_deep.true),
           ),
         ),
@@ -105,7 +106,7 @@ returns c =
               (
                 refuted _ c.bad_record.ensures c.if-bad_record.false,
                 (
-                  refuted _ c.noted_all-flags.ensures.twice c.if-flags.false,
+                  c.in_ok-seen.ensures.once,
                   (
                     refuted _ c.nested_too_deep.ensures c.if-nested_too_deep.false,
                     tt,
