@@ -15,6 +15,8 @@ use format::question::Question;
 use format::{Refusal, byte, question};
 use hand::env::Env;
 use hand::setup;
+use rules::Stop;
+use steps::Steps;
 
 // The side that a certificate proves, or the first of the refusals 1 to 13, 20 to 25.
 pub fn check(image: &[u8], table: &[u8], certificate: &[u8], goal: u64, start: u64) -> Answer
@@ -60,30 +62,18 @@ fn steps_of(image: &[u8], table: &[u8], certificate: &[u8], q: Question) -> Chec
     let env = Env {
         slots: [q.start, 0, 0, 0],
     };
-    let mut fault = 0;
-    let end = steps::formula(
-        &all,
-        &entries,
-        certificate,
-        q.goal,
-        env,
-        header::BYTES,
-        &mut fault,
-    );
-    let size = certificate.len();
-    if end < size {
-        return Checked::Refused(Refusal::BytesRemain, end);
+    let steps = Steps {
+        sets: &all,
+        entries: &entries,
+        bytes: certificate,
+    };
+    match steps.read(q.goal, env, header::BYTES) {
+        Ok(end) if end < certificate.len() => Checked::Refused(Refusal::BytesRemain, end),
+        Ok(_) => Checked::Side(side),
+        Err(Stop::Missing) => Checked::Refused(Refusal::ByteMissing, certificate.len()),
+        Err(Stop::Wrong(at)) => Checked::Refused(Refusal::WrongCode, at),
+        Err(Stop::Fails(at)) => Checked::Refused(Refusal::ConditionFails, at),
     }
-    if end == size {
-        return Checked::Side(side);
-    }
-    if end == size + 1 {
-        return Checked::Refused(Refusal::ByteMissing, size);
-    }
-    if end == size + 2 {
-        return Checked::Refused(Refusal::WrongCode, fault);
-    }
-    Checked::Refused(Refusal::ConditionFails, fault)
 }
 
 // The check for callers in C, as one number: `answer::code` says which.
