@@ -8,25 +8,20 @@
 --                                                   an operand is in hand too, and its entry is read for it
 --     handed, walking, onto, stage-room             what a reader asks; the walk at a successor; a stage is below the width
 --     Arm, arm-of                                   a rule is read for the formula in hand, and stands in an arm of the code's `match`
---     arm-ruled, arm-inside                         its record keeps the rules of the rule's kind, and its bytes are there
---     arm-fails, arm-proves, arm-ends               its condition fails, or holds and then the premises are read, or there are none
---     head-missing, head-wrong                      no rule is read
---     next-is                                       the test for a chosen stage asks whether it is a successor
-use Prim.Native.Nat.{ℕ, zero, suc, ◌+◌, ◌≤◌, ◌<◌}
+--     arm-ruled                                     its record keeps the rules of the rule's kind
+--     arm-fails, arm-proves                         its condition fails, or holds and then the premises are read
+--     head-unread                                   no rule is read
+use Prim.Native.Nat.{ℕ, zero, suc, ◌≤◌, ◌<◌}
 use native.Mathlib.Omega.{arith}
 use mathlib.Core.Path.{◌≡◌, refl, sym, ap, subst, ◌∙◌}
 use mathlib.Core.Bool.{Bool, true, false}
 use mathlib.Core.List.{List}
 use mathlib.Core.Logic.{⊎_elim}
 use lib.Dec.{T, eqb, ltb}
-use lib.ListN.{length}
 use borrow.Author.Tests.{lt-ltb, le-ltb}
 use Rattle.sets.specs.declared.Set.{Set}
-use Rattle.model.specs.Decides.{Decides}
 use Rattle.model.specs.Formula.{Env, bind, pick, value}
-use Rattle.sets.specs.Member.{Has}
 use Rattle.sets.specs.Number.{width}
-use Rattle.sets.specs.Row.{held}
 use Rattle.sets.proofs.LawsMember.{side?}
 use Rattle.format.specs.Image.{stages_of, graph_of}
 use Rattle.format.specs.Table.{record_at, kind_of, sort_of, term_of, IsTerm, a_stage, a_variable, RuledAs}
@@ -39,8 +34,8 @@ use Rattle.rules.specs.Reading.{Reader, Progress}
 use Rattle.rules.specs.declared.Rule.{Rule}
 use Rattle.std.specs.Prelude.{Ok, Err}
 use Rattle.rules.specs.declared.Unread.{Unread}
-use Rattle.rules.proofs.Heads.{no_code_lem, head-begins, not-false}
-use Rattle.rules.proofs.Rows.{inside}
+use Rattle.rules.specs.declared.Stop.{Stop}
+use Rattle.rules.proofs.Heads.{head-begins, not-false}
 use Rattle.rules.proofs.StepLaws.{number-kind}
 use Rattle.hand.specs.Environment.{env_of, Bound}
 use Rattle.hand.specs.declared.env.Env.{Env as Slots}
@@ -49,13 +44,11 @@ use Rattle.hand.specs.Hand.{start_as, start_in}
 use Rattle.hand.specs.Setup.{most_entries, kind_in, entry_at, entry_of}
 use Rattle.hand.specs.declared.setup.Entry.{Entry}
 use Rattle.hand.proofs.EnvironmentLaws.{stage-value, variable-value}
-use Rattle.hand.proofs.HandLaws.{leads-is}
-use Rattle.hand.proofs.SetupLaws.{next-set}
 use Rattle.hand.proofs.SideLaws.{of_number, start-side}
-use Rattle.checker.specs.Reading.{InHand, OnWalk, Handed, Walking, Started, Past, told}
+use Rattle.checker.specs.Cause.{unread, stop_at}
+use Rattle.checker.specs.Reading.{InHand, OnWalk, Handed, Walking, Started}
 use Rattle.checker.specs.Reading.{allows, read_entry, read_operand, read_a, read_b, read_along, read_premises_of}
 use Rattle.checker.proofs.ReadingLaws.{lower-operand, step-missing, step-wrong, step-fails, step-proves}
-use Rattle.checker.proofs.ToldLaws.{told_at, told-missing, told-wrong, told-fails}
 
 -- ---- kinds on a side
 
@@ -266,15 +259,9 @@ module _ {image table : List ℕ} {sets : List Set} {entries : List Entry} (step
   arm-of {next = next} f g = record { hand = hand; head = sym head-of ∙ f ∙ ap (λ (q : Rule). Ok (step_by q next)) g }
 
   -- No rule is read.
-  pub head-missing : (set s fault : ℕ) {r : ℕ} → h ≡ Err Unread.Missing → r ≡ length steps + 1
-      → told (length steps) r fault ≡ read_along image table steps side e env set s at
-  head-missing set s fault {r} f r-is =
-      told-missing (length steps) r fault r-is ∙ step-missing image table steps side e refl env set s at refl refl head-of f
-
-  pub head-wrong : (set s : ℕ) {r fault : ℕ} → h ≡ Err Unread.Wrong → Past 2 steps at fault r
-      → told (length steps) r fault ≡ read_along image table steps side e env set s at
-  head-wrong set s f p =
-      told-wrong p ∙ step-wrong image table steps side e refl env set s at refl refl head-of f
+  pub head-unread : (set s : ℕ) (u : Unread) → h ≡ Err u → Err (stop_at (unread u) at) ≡ read_along image table steps side e env set s at
+  head-unread set s Unread.Missing f = step-missing image table steps side e refl env set s at refl refl head-of f
+  head-unread set s Unread.Wrong f = step-wrong image table steps side e refl env set s at refl refl head-of f
 
 module _ {image table : List ℕ} {sets : List Set} {entries : List Entry} {steps : List ℕ} {side e : ℕ} {env : Env} {at : ℕ} {q : Rule} {next : ℕ}
     (arm : Arm image table side sets entries steps e env at q next) where
@@ -296,35 +283,12 @@ module _ {image table : List ℕ} {sets : List Set} {entries : List Entry} {step
       subst (λ (j : Kind). RuledAs (sort_of j) image e (record_at table e)) k-is
       (ruled-side image e (record_at table e) side (kind_of (record_at table e).kind) (arm.hand.lent.ruled e arm.hand.below))
 
-  -- and the rule's own bytes are there.
-  pub arm-inside : next ≤ length steps
-  arm-inside = ⊎_elim
-      (λ l. inside (head-begins steps at (kind_in side (record_at table e)) arm.head).0 (omega arith))
-      (λ l. none (no_code_lem steps at (kind_in side (record_at table e)) l ∙ arm.head))
-      (side? at (length steps))
-    where
-      none : Err Unread.Missing ≡ Ok (step_by q next) → next ≤ length steps
-      none f = let z : ◌≡◌ {A = ℕ} 0 1 = cc in absurd (omega arith)
-
   module _ (set s : ℕ) where
     -- Its condition fails,
-    pub arm-fails : {r fault : ℕ} → allows image (record_at table e) env set s q ≡ false → Past 3 steps at fault r
-        → told (length steps) r fault ≡ read_along image table steps side e env set s at
-    arm-fails f p = told-fails p ∙ step-fails image table steps side e refl env set s at refl refl refl arm.head refl f
+    pub arm-fails : allows image (record_at table e) env set s q ≡ false → Err (Stop.Fails at) ≡ read_along image table steps side e env set s at
+    arm-fails f = step-fails image table steps side e refl env set s at refl refl refl arm.head refl f
 
-    -- or holds, and then the premises are read,
+    -- or holds, and then the premises are read.
     pub arm-proves : {p : Progress} → allows image (record_at table e) env set s q ≡ true
         → p ≡ read_premises_of image table steps side e (record_at table e) env set s q next → p ≡ read_along image table steps side e env set s at
     arm-proves f p-is = step-proves image table steps side e refl env set s at refl refl refl arm.head refl f p-is
-
-    -- or there are none.
-    pub arm-ends : (fault : ℕ) → allows image (record_at table e) env set s q ≡ true
-        → Ok next ≡ read_premises_of image table steps side e (record_at table e) env set s q next
-        → told (length steps) next fault ≡ read_along image table steps side e env set s at
-    arm-ends fault f none = arm-proves f (told_at fault arm-inside ∙ none)
-
--- The test for a chosen stage asks whether it is a successor.
-pub next-is : {image table : List ℕ} {sets : List Set} {entries : List Entry} {side e : ℕ} {env : Env} {s k : ℕ} (c : ℕ) {b : Bool} → OnWalk image table side sets entries e env s
-    → k ≡ s → Decides b (Has (held sets k) c) → b ≡ (graph_of image).next s c
-next-is {image} {sets = sets} {s = s} c w k-is d =
-    leads-is image s c (next-set w.hand.lent.all w.stage (ap (held sets) k-is)) d

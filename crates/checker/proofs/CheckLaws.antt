@@ -1,6 +1,6 @@
 -- What a check answers, from what its parts say.
 --
---     small-setup, setup-lent, goal-hand
+--     small-setup, setup-lent, goal-hand, question-hand
 --                                      what the readers of steps go by holds of a setup that is not refused
 --     own-question, by-given           the question by its own goal and start
 --     reading-is, missing, wrong, fails, remain, whole
@@ -86,7 +86,7 @@ module _ (image table : List ℕ) (clear : Clear (setup_conditions image table))
   }
 
 -- Its sets decoded and its entries prepared are what the readers are lent.
-pub setup-lent : {image table : List ℕ} {sets : List Set} {entries : List Entry} {side count m : ℕ} → Clear (setup_conditions image table) → count ≡ sets_in image
+setup-lent : {image table : List ℕ} {sets : List Set} {entries : List Entry} {side count m : ℕ} → Clear (setup_conditions image table) → count ≡ sets_in image
     → m ≡ entries_of table → (empty : Set) → of_set empty ≡ 0 → Decoded image count (replicate 1088 empty) sets
     → (first : Entry) → Prepared image table m side (replicate most_entries first) entries → Lent image table side sets entries
 setup-lent {image} {table} {m = m} clear count-is m-is empty none d first p =
@@ -102,7 +102,7 @@ setup-lent {image} {table} {m = m} clear count-is m-is empty none d first p =
     }
 
 -- The goal is in hand, with variable 0 at the start and the others at stage 0.
-pub goal-hand : {image table : List ℕ} {sets : List Set} {entries : List Entry} {goal start side : ℕ} → Clear (question_conditions image table goal start)
+goal-hand : {image table : List ℕ} {sets : List Set} {entries : List Entry} {goal start side : ℕ} → Clear (question_conditions image table goal start)
     → Lent image table side sets entries → InHand image table side sets entries goal (env_of (record { slots = start ∷ 0 ∷ 0 ∷ 0 ∷ [] }))
 goal-hand {image} {table} {goal = goal} {start = start} clear lent = record {
   lent = lent;
@@ -113,6 +113,15 @@ goal-hand {image} {table} {goal = goal} {start = start} clear lent = record {
     picked : (b : Bool) → pick b start 0 < stages_of image
     picked true = start-below image table goal start clear
     picked false = omega (arith, lent.some)
+
+-- So it is for a question that was read.
+pub question-hand : {image table : List ℕ} {sets : List Set} {entries : List Entry} {side : ℕ} {q : Question} → QuestionRead image table q.goal q.start q
+    → (empty : Set) → of_set empty ≡ 0 → Decoded image q.shape.image.sets (replicate 1088 empty) sets
+    → (first : Entry) → Prepared image table q.shape.entries side (replicate most_entries first) entries
+    → InHand image table side sets entries q.goal (env_of (record { slots = q.start ∷ 0 ∷ 0 ∷ 0 ∷ [] }))
+question-hand {image} {table} {q = q} read empty none d first p =
+    goal-hand read.clear (setup-lent (of-setup image table q.goal q.start read.clear) (ap (λ (r : Question). r.shape.image.sets) read.is)
+    (ap (λ (r : Question). r.shape.entries) read.is) empty none d first p)
 
 -- A question that was read is one by its own goal and start, which are those that were given.
 module _ {image table : List ℕ} {goal start : ℕ} {q : Question} (read : QuestionRead image table goal start q) where
@@ -173,13 +182,13 @@ module _ {image table : List ℕ} {goal start : ℕ} (clear : Clear (question_co
       → StepsAnswer certificate (reading image table certificate goal start) (Ok side)
   whole e h f = (f, e ∙ ap Ok (le_antisymm (inside-certificate e) h))
 
--- What `formula` answers, from the place after the header with the variables at the start, is the reading of the steps.
-pub reading-is : (image table certificate : List ℕ) (goal start : ℕ) {side : ℕ} {p arm : Progress} → side ≡ side_of certificate
-    → p ≡ read_entry image table certificate side goal (env_of (record { slots = start ∷ 0 ∷ 0 ∷ 0 ∷ [] })) 8 → p ≡ arm
-    → reading image table certificate goal start ≡ arm
+-- What `read` answers, from the place after the header with the variables at the start, is the reading of the steps.
+pub reading-is : (image table certificate : List ℕ) (goal start : ℕ) {side : ℕ} {p : Progress} → side ≡ side_of certificate
+    → p ≡ read_entry image table certificate side goal (env_of (record { slots = start ∷ 0 ∷ 0 ∷ 0 ∷ [] })) 8
+    → reading image table certificate goal start ≡ p
 unfolding reading read_entry
-reading-is image table certificate goal start side_is p-is arm_is_lem =
-    sym (p-is ∙ ap₂ (λ (s : ℕ) (c : Env). read_entry image table certificate s goal c 8) side_is (start-env start)) ∙ arm_is_lem
+reading-is image table certificate goal start side_is p-is =
+    sym (p-is ∙ ap₂ (λ (s : ℕ) (c : Env). read_entry image table certificate s goal c 8) side_is (start-env start))
 
 -- ---- the whole check
 

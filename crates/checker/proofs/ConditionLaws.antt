@@ -1,119 +1,66 @@
--- The one rule for each kind that has no premises, and the conditions of rules, from what the code tests.
+-- A rule's own condition, from what the code tests.
 --
---     for-true, for-holds, for-holds-not     the rule is known by its kind
---     off-holds, off-fails, on-holds, on-fails, off-walk
---                                            a stage that is to be off the walk, or on it
---     chosen-fails, chosen-holds, besides-fails, chosen-next
---                                            a chosen stage, and such a condition besides
-use Prim.Native.Nat.{ℕ}
+--     holds-allowed, not-allowed     the rules for an atom and for its negation
+--     granted                        the condition that passed is the rule's
+--     and-left, and-right            of two conditions both hold
+--     off-walk                       a stage that is to be off the walk is not on it
+use Prim.Native.Nat.{ℕ, ◌/◌, ◌<◌}
 use native.Mathlib.Omega.{arith}
-use mathlib.Core.Path.{◌≡◌, refl, sym, ap, subst, ◌∙◌}
+use mathlib.Core.Path.{◌≡◌, sym, ap, subst, ◌∙◌}
 use mathlib.Core.Bool.{Bool, true, false, not, ◌&&◌}
+use mathlib.Core.List.{List}
 use lib.Dec.{T}
 use borrow.Author.Tests.{eq-eqb}
-use Rattle.model.specs.Decides.{Decides}
+use Rattle.hand.specs.declared.setup.Entry.{Entry}
+use Rattle.sets.specs.declared.Set.{Set}
+use Rattle.model.specs.Formula.{Env}
 use Rattle.sets.specs.Member.{bit, Has}
-use Rattle.format.specs.Image.{member}
+use Rattle.format.specs.Image.{member, stages_of}
+use Rattle.format.specs.Table.{record_at}
 use Rattle.rules.specs.Table.{kind_for}
 use Rattle.rules.specs.declared.Rule.{Rule}
-use Rattle.hand.proofs.HandLaws.{member_is}
+use Rattle.hand.specs.Hand.{atom_in}
+use Rattle.hand.specs.Setup.{entry_at, atom_from}
+use Rattle.hand.proofs.EntryLaws.{entry-atom}
+use Rattle.checker.specs.Reading.{InHand, Allowed, allows}
+use Rattle.checker.proofs.ArmLaws.{kind-is, entry-is}
 
--- The one rule for "true".
-pub for-true : (q : Rule) → kind_for q ≡ 0 → q ≡ Rule.True
-for-true Rule.True e = refl
-for-true Rule.Holds e = absurd (omega arith)
-for-true Rule.HoldsNot e = absurd (omega arith)
-for-true Rule.And e = absurd (omega arith)
-for-true Rule.OrLeft e = absurd (omega arith)
-for-true Rule.OrRight e = absurd (omega arith)
-for-true Rule.Ax e = absurd (omega arith)
-for-true (Rule.Ex c) e = absurd (omega arith)
-for-true Rule.AfNow e = absurd (omega arith)
-for-true Rule.AfLater e = absurd (omega arith)
-for-true (Rule.EgOn c) e = absurd (omega arith)
-for-true Rule.EgMerge e = absurd (omega arith)
-for-true Rule.ArRelease e = absurd (omega arith)
-for-true Rule.ArOn e = absurd (omega arith)
-for-true Rule.ArMerge e = absurd (omega arith)
-for-true Rule.EuNow e = absurd (omega arith)
-for-true (Rule.EuLater c) e = absurd (omega arith)
+-- ---- atoms
 
--- For an atom.
-pub for-holds : (q : Rule) → kind_for q ≡ 2 → q ≡ Rule.Holds
-for-holds Rule.True e = absurd (omega arith)
-for-holds Rule.Holds e = refl
-for-holds Rule.HoldsNot e = absurd (omega arith)
-for-holds Rule.And e = absurd (omega arith)
-for-holds Rule.OrLeft e = absurd (omega arith)
-for-holds Rule.OrRight e = absurd (omega arith)
-for-holds Rule.Ax e = absurd (omega arith)
-for-holds (Rule.Ex c) e = absurd (omega arith)
-for-holds Rule.AfNow e = absurd (omega arith)
-for-holds Rule.AfLater e = absurd (omega arith)
-for-holds (Rule.EgOn c) e = absurd (omega arith)
-for-holds Rule.EgMerge e = absurd (omega arith)
-for-holds Rule.ArRelease e = absurd (omega arith)
-for-holds Rule.ArOn e = absurd (omega arith)
-for-holds Rule.ArMerge e = absurd (omega arith)
-for-holds Rule.EuNow e = absurd (omega arith)
-for-holds (Rule.EuLater c) e = absurd (omega arith)
+module _ {sets : List Set} {entries : List Entry} {e : ℕ} {env : Env} {b : Bool} (b-is : b ≡ atom_from sets (entry_at entries e) env) where
+  -- The test of the atom is the record's.
+  atom-is : {image table : List ℕ} {side : ℕ} → InHand image table side sets entries e env → (entry_at entries e).kind / 2 ≡ 1
+      → b ≡ atom_in image (record_at table e) env
+  atom-is {image} {table} {side} hand h =
+      b-is ∙ entry-atom side (record_at table e) env hand.lent.all (entry-is hand) (ap (λ (k : ℕ). k / 2) (sym (kind-is hand)) ∙ h)
 
--- For its negation.
-pub for-holds-not : (q : Rule) → kind_for q ≡ 3 → q ≡ Rule.HoldsNot
-for-holds-not Rule.True e = absurd (omega arith)
-for-holds-not Rule.Holds e = absurd (omega arith)
-for-holds-not Rule.HoldsNot e = refl
-for-holds-not Rule.And e = absurd (omega arith)
-for-holds-not Rule.OrLeft e = absurd (omega arith)
-for-holds-not Rule.OrRight e = absurd (omega arith)
-for-holds-not Rule.Ax e = absurd (omega arith)
-for-holds-not (Rule.Ex c) e = absurd (omega arith)
-for-holds-not Rule.AfNow e = absurd (omega arith)
-for-holds-not Rule.AfLater e = absurd (omega arith)
-for-holds-not (Rule.EgOn c) e = absurd (omega arith)
-for-holds-not Rule.EgMerge e = absurd (omega arith)
-for-holds-not Rule.ArRelease e = absurd (omega arith)
-for-holds-not Rule.ArOn e = absurd (omega arith)
-for-holds-not Rule.ArMerge e = absurd (omega arith)
-for-holds-not Rule.EuNow e = absurd (omega arith)
-for-holds-not (Rule.EuLater c) e = absurd (omega arith)
+  pub holds-allowed : {rule : Rule} (set s : ℕ) → rule ≡ Rule.Holds → Allowed sets entries e env rule set s b
+  holds-allowed set s f = record {
+    is = λ {image} {table} {side} hand inside k.
+        atom-is hand (omega (arith, k, ap kind_for f)) ∙ sym (ap (λ (q : Rule). allows image (record_at table e) env set s q) f);
+  }
 
--- ---- the walk
+  pub not-allowed : {rule : Rule} (set s : ℕ) → rule ≡ Rule.HoldsNot → Allowed sets entries e env rule set s (not b)
+  not-allowed set s f = record {
+    is = λ {image} {table} {side} hand inside k.
+        ap not (atom-is hand (omega (arith, k, ap kind_for f))) ∙ sym (ap (λ (q : Rule). allows image (record_at table e) env set s q) f);
+  }
 
--- What the test of membership tells, at the stage that its index is.
-module _ (set : ℕ) {k s : ℕ} (k-is : k ≡ s) (on : Bool) (d : Decides on (Has set k)) where
-  on-is : on ≡ member set s
-  on-is = member_is set k on d ∙ ap (member set) k-is
+-- ---- a condition that passed
 
-  pub off-holds : on ≡ false → not (member set s) ≡ true
-  off-holds e = ap not (sym on-is ∙ e)
+pub granted : {image table : List ℕ} {sets : List Set} {entries : List Entry} {side e : ℕ} {env : Env} {rule q : Rule} {set s : ℕ} {b : Bool}
+    → Allowed sets entries e env rule set s b → b ≡ true → rule ≡ q → InHand image table side sets entries e env → s < stages_of image
+    → kind_for rule ≡ (entry_at entries e).kind → allows image (record_at table e) env set s q ≡ true
+granted {image} {table} {e = e} {env} {set = set} {s} allowed t named hand inside k =
+    ap (λ (r : Rule). allows image (record_at table e) env set s r) (sym named) ∙ sym (allowed.is hand inside k) ∙ t
 
-  pub off-fails : on ≡ true → not (member set s) ≡ false
-  off-fails e = ap not (sym on-is ∙ e)
+pub and-left : (a b : Bool) → (a && b) ≡ true → T a
+and-left true b e = tt
+and-left false b e = cc
 
-  pub on-holds : on ≡ true → member set s ≡ true
-  on-holds e = sym on-is ∙ e
-
-  pub on-fails : on ≡ false → member set s ≡ false
-  on-fails e = sym on-is ∙ e
-
--- ---- a chosen stage
-
--- A chosen stage that is no successor fails, whatever is asked besides; one that is leaves what is asked besides.
-pub chosen-fails : (b : Bool) {n : Bool} (m : Bool) → b ≡ n → b ≡ false → (n && m) ≡ false
-chosen-fails b m e f = ap (λ (c : Bool). c && m) (sym e ∙ f)
-
-pub chosen-holds : (b : Bool) {n : Bool} {m : Bool} → b ≡ n → b ≡ true → m ≡ true → (n && m) ≡ true
-chosen-holds b {m = m} e f g = ap (λ (c : Bool). c && m) (sym e ∙ f) ∙ g
-
--- What is asked besides fails, whatever the chosen stage.
-pub besides-fails : (n : Bool) {m : Bool} → m ≡ false → (n && m) ≡ false
-besides-fails true e = e
-besides-fails false e = refl
-
--- A chosen stage that passed is a successor.
-pub chosen-next : (b : Bool) {n : Bool} → b ≡ n → b ≡ true → T n
-chosen-next b e f = subst T (sym f ∙ e) tt
+pub and-right : (a b : Bool) → (a && b) ≡ true → b ≡ true
+and-right true b e = e
+and-right false b e = cc
 
 -- A stage whose test passed is not on the walk.
 pub off-walk : (set s : ℕ) → not (member set s) ≡ true → Has set s → ⊥

@@ -1,78 +1,79 @@
 -- A formula with no premises, which is read in one step from the start of a walk that goes nowhere.
 --
---     whole                                   the reading along its empty walk is the formula's
---     leaf-true                               "true"
---     holds-ends, holds-fails                 an atom
---     not-ends, not-fails                     its negation; "false" has no rule
-use Prim.Native.Nat.{ℕ, ◌/◌, ◌<◌}
+--     no-premises                 a rule for such a formula has none
+--     leaf-unread                 no rule is read
+--     leaf-refused, leaf-taken    its rule's condition fails, or holds
+use Prim.Native.Nat.{ℕ, ◌<◌}
 use native.Mathlib.Omega.{arith}
-use mathlib.Core.Path.{◌≡◌, refl, sym, ap, subst, ◌∙◌}
-use mathlib.Core.Bool.{Bool, true, false, not}
+use mathlib.Core.Path.{◌≡◌, refl, sym, ap, ◌∙◌}
+use mathlib.Core.Bool.{Bool, true, false}
 use mathlib.Core.List.{List}
-use lib.ListN.{length}
 use Rattle.hand.specs.declared.setup.Entry.{Entry}
 use Rattle.sets.specs.declared.Set.{Set}
+use Rattle.std.specs.Prelude.{Ok, Err}
 use Rattle.model.specs.Formula.{Env}
+use Rattle.format.specs.Image.{graph_of}
 use Rattle.format.specs.Table.{record_at}
-use Rattle.rules.specs.Table.{kind_for}
+use Rattle.rules.specs.Head.{head_of, Head, step_by}
+use Rattle.rules.specs.Table.{row, body, kind_for, Premises, none}
+use Rattle.rules.specs.Reading.{Progress, read_premises}
 use Rattle.rules.specs.declared.Rule.{Rule}
-use Rattle.std.specs.Prelude.{Ok}
-use Rattle.rules.specs.Reading.{Progress}
-use Rattle.hand.specs.Hand.{start_in, atom_in}
-use Rattle.hand.specs.Setup.{entry_at, atom_from}
-use Rattle.hand.proofs.EntryLaws.{entry-atom}
-use Rattle.checker.specs.Reading.{Past, told, read_entry, read_along}
-use Rattle.checker.proofs.ConditionLaws.{for-true, for-holds, for-holds-not}
+use Rattle.rules.specs.declared.Stop.{Stop}
+use Rattle.rules.specs.declared.Unread.{Unread}
+use Rattle.hand.specs.Setup.{entry_at}
+use Rattle.checker.specs.Cause.{unread, stop_at}
+use Rattle.checker.specs.Reading.{InHand, FormulaRead, Allowed, binds, parts_of, read_along, read_entry}
+use Rattle.checker.proofs.StartLaws.{starts_none}
 use Rattle.checker.proofs.ReadingLaws.{from_start}
-use Rattle.checker.proofs.ArmLaws.{Arm, kind-is, entry-is, arm-kind, not-one, arm-fails, arm-ends}
+use Rattle.checker.proofs.ArmLaws.{Arm, arm-of, arm-kind, arm-fails, arm-proves, head-unread, start_is}
+
+-- The rules for formulas of the first four kinds have no premises.
+pub no-premises : (q : Rule) → kind_for q < 4 → (body q).premises ≡ none
+no-premises Rule.True h = refl
+no-premises Rule.Holds h = refl
+no-premises Rule.HoldsNot h = refl
+no-premises Rule.And h = absurd (omega arith)
+no-premises Rule.OrLeft h = absurd (omega arith)
+no-premises Rule.OrRight h = absurd (omega arith)
+no-premises Rule.Ax h = absurd (omega arith)
+no-premises (Rule.Ex c) h = absurd (omega arith)
+no-premises Rule.AfNow h = absurd (omega arith)
+no-premises Rule.AfLater h = absurd (omega arith)
+no-premises (Rule.EgOn c) h = absurd (omega arith)
+no-premises Rule.EgMerge h = refl
+no-premises Rule.ArRelease h = absurd (omega arith)
+no-premises Rule.ArOn h = absurd (omega arith)
+no-premises Rule.ArMerge h = refl
+no-premises Rule.EuNow h = absurd (omega arith)
+no-premises (Rule.EuLater c) h = absurd (omega arith)
 
 -- The reading along its empty walk is the formula's.
-pub whole : (image table steps : List ℕ) (side e : ℕ) (env : Env) (at : ℕ) {p : Progress}
-    → p ≡ read_along image table steps side e env 0 (start_in (record_at table e) env) at → p ≡ read_entry image table steps side e env at
-whole image table steps side e env at p-is = from_start image table steps side e refl env (Ok at) refl refl p-is
+whole : {image table : List ℕ} {sets : List Set} {entries : List Entry} {side e : ℕ} {env : Env} (bytes : List ℕ) (at : ℕ) → InHand image table side sets entries e env
+    → (entry_at entries e).kind < 4 → {set : ℕ} → set ≡ 0 → {p : Progress} → p ≡ read_along image table bytes side e env set 0 at
+    → p ≡ read_entry image table bytes side e env at
+whole {image} {table} {sets} {entries} {side} {e} {env} bytes at hand low empty p-is =
+    from_start image table bytes side e refl env (Ok at) empty
+    (start_is hand (starts_none ((entry_at entries e).kind) ((entry_at entries e).t) env (omega arith))) p-is
 
-module _ {image table : List ℕ} {sets : List Set} {entries : List Entry} {steps : List ℕ} {side e : ℕ} {env : Env} {at : ℕ} {q : Rule} {next : ℕ}
-    (arm : Arm image table side sets entries steps e env at q next) where
-  as-rule : {p : Rule} → q ≡ p → Arm image table side sets entries steps e env at p next
-  as-rule f = subst (λ (p : Rule). Arm image table side sets entries steps e env at p next) f arm
+module _ {sets : List Set} {entries : List Entry} {bytes : List ℕ} {e : ℕ} {env : Env} {kind at : ℕ} {h : Head} (is : kind ≡ (entry_at entries e).kind) (h-is : h ≡ head_of bytes at kind)
+    (low : (entry_at entries e).kind < 4) {set : ℕ} (empty : set ≡ 0) where
+  pub leaf-unread : (u : Unread) → h ≡ Err u → FormulaRead sets entries bytes e env at (Err (stop_at (unread u) at))
+  leaf-unread u f = record { is = λ {image} {table} {side} hand. whole bytes at hand low empty (head-unread bytes hand at is h-is set 0 u f) }
 
-  abbrev s : ℕ
-  s = start_in (record_at table e) env
+  module _ {rule : Rule} {next : ℕ} (found : h ≡ Ok (step_by rule next)) {b : Bool} (allowed : Allowed sets entries e env rule set 0 b) where
+    pub leaf-refused : b ≡ false → FormulaRead sets entries bytes e env at (Err (Stop.Fails at))
+    leaf-refused f = record {
+      is = λ {image} {table} {side} hand.
+          let arm : Arm image table side sets entries bytes e env at rule next = arm-of bytes hand at is h-is found refl in
+          whole bytes at hand low empty (arm-fails arm set 0 (sym (allowed.is hand (omega (arith, hand.lent.some)) (arm-kind arm)) ∙ f));
+    }
 
-  -- "True" is proved.
-  pub leaf-true : (fault : ℕ) → (entry_at entries e).kind ≡ 0 → told (length steps) next fault ≡ read_entry image table steps side e env at
-  leaf-true fault is = whole image table steps side e env at (arm-ends (as-rule (for-true q (arm-kind arm ∙ is))) 0 s fault refl refl)
-
-  module _ {b : Bool} (b-is : b ≡ atom_from sets (entry_at entries e) env) where
-    -- The test of the atom is the record's.
-    atom-is : (entry_at entries e).kind / 2 ≡ 1 → b ≡ atom_in image (record_at table e) env
-    atom-is h =
-        b-is ∙ entry-atom side (record_at table e) env arm.hand.lent.all (entry-is arm.hand) (ap (λ (k : ℕ). k / 2) (sym (kind-is arm.hand)) ∙ h)
-
-    -- An atom.
-    module _ (is : (entry_at entries e).kind ≡ 2) where
-      holds : Arm image table side sets entries steps e env at Rule.Holds next
-      holds = as-rule (for-holds q (arm-kind arm ∙ is))
-
-      pub holds-ends : (fault : ℕ) → b ≡ true → told (length steps) next fault ≡ read_entry image table steps side e env at
-      holds-ends fault f = whole image table steps side e env at (arm-ends holds 0 s fault (sym (atom-is (omega arith)) ∙ f) refl)
-
-      pub holds-fails : {r fault : ℕ} → b ≡ false → Past 3 steps at fault r → told (length steps) r fault ≡ read_entry image table steps side e env at
-      holds-fails f p = whole image table steps side e env at (arm-fails holds 0 s (sym (atom-is (omega arith)) ∙ f) p)
-
-    -- Its negation.
-    module _ (some : (entry_at entries e).kind ≡ 0 → ⊥) (other : (entry_at entries e).kind ≡ 2 → ⊥) (low : (entry_at entries e).kind < 4) where
-      three : kind_for q ≡ 3
-      three = omega (arith, arm-kind arm, not-one arm, some, other)
-
-      holds_not : Arm image table side sets entries steps e env at Rule.HoldsNot next
-      holds_not = as-rule (for-holds-not q three)
-
-      not-atom : {c : Bool} → b ≡ c → not (atom_in image (record_at table e) env) ≡ not c
-      not-atom f = ap not (sym (atom-is (omega (arith, arm-kind arm, three))) ∙ f)
-
-      pub not-ends : (fault : ℕ) → b ≡ false → told (length steps) next fault ≡ read_entry image table steps side e env at
-      not-ends fault f = whole image table steps side e env at (arm-ends holds_not 0 s fault (not-atom f) refl)
-
-      pub not-fails : {r fault : ℕ} → b ≡ true → Past 3 steps at fault r → told (length steps) r fault ≡ read_entry image table steps side e env at
-      not-fails f p = whole image table steps side e env at (arm-fails holds_not 0 s (not-atom f) p)
+    pub leaf-taken : b ≡ true → FormulaRead sets entries bytes e env at (Ok next)
+    leaf-taken f = record {
+      is = λ {image} {table} {side} hand.
+          let arm : Arm image table side sets entries bytes e env at rule next = arm-of bytes hand at is h-is found refl in
+          let none-is = no-premises rule (omega (arith, arm-kind arm)) in
+          whole bytes at hand low empty (arm-proves arm set 0 (sym (allowed.is hand (omega (arith, hand.lent.some)) (arm-kind arm)) ∙ f)
+          (sym (ap (λ (ps : Premises). read_premises (graph_of image)
+          (parts_of image table bytes side e (record_at table e) env set 0 (binds (row rule).kind)) 0 ps next) none-is)));
+    }

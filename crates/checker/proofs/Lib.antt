@@ -3,7 +3,6 @@
 pub mod ConditionLaws
 pub mod StepLaws
 pub mod TakenLaws
-pub mod ToldLaws
 pub mod ReadingLaws
 pub mod WalkLaws
 pub mod EachLaws

@@ -2,6 +2,7 @@
 -- reader's own.
 --
 --     goes_on, nothing, in-turn       a reading that came to a place goes on there; what reads nothing; two readings in turn
+--     stays, goes                     a second reading after a first: none after one that stopped, else it goes on from the place
 --     lower-operand                   an operand is the entry of its number
 --     from_start                      an entry, from the start of its walk
 --     step-missing, step-wrong, step-fails, step-proves
@@ -55,6 +56,14 @@ after_both (Err stop) f g = refl
 
 pub in-turn : (came : Progress) {p q : Progress} (f g : Reader) → p ≡ onward came f → q ≡ onward p g → q ≡ onward came (λ at. onward (f at) g)
 in-turn came f g e h = h ∙ ap (λ (p : Progress). onward p g) e ∙ after_both came f g
+
+-- A first reading stopped, and no second is made.
+pub stays : {stop : Stop} {p : Progress} (k : Reader) → Err stop ≡ p → Err stop ≡ onward p k
+stays k e = ap (λ (p : Progress). onward p k) e
+
+-- It came to a place, and the second goes on from there.
+pub goes : {at : ℕ} {p q : Progress} (k : Reader) → Ok at ≡ p → q ≡ k at → q ≡ onward p k
+goes k e q-is = q-is ∙ ap (λ (p : Progress). onward p k) e
 
 -- ---- operands
 

@@ -2,21 +2,19 @@
 -- formula that an entry of the table has on a side, with the walk held as a set. Nothing that document 01 states is defined here.
 use Rattle.hand.specs.declared.setup.Entry.{Entry}
 use Rattle.sets.specs.declared.Set.{Set}
-use Rattle.std.specs.Prelude.{ℕ, suc, ◌+◌, ◌-◌, ◌≤◌, ◌<◌, ◌≡◌, Bool, true, false, ◌&&◌, List, T, eqb, ltb, length, Ok, Err}
+use Rattle.std.specs.Prelude.{ℕ, suc, ◌-◌, ◌≤◌, ◌<◌, ◌≡◌, Bool, true, false, ◌&&◌, List, ltb}
 use Rattle.std.specs.Int.Count.{ones}
 use Rattle.model.specs.Graph.{Readable}
 use Rattle.model.specs.Formula.{Env, bind, pick, value}
 use Rattle.logic.specs.Rules.{Walk, also}
-use Rattle.sets.specs.Member.{Has}
 use Rattle.sets.specs.Number.{width}
 use Rattle.format.specs.Image.{stages_of, member, graph_of}
 use Rattle.format.specs.Table.{entries_of, record_at, nth, trees, tree_of, term_of, Ruled}
 use Rattle.format.specs.declared.record.Record.{Record}
 use Rattle.rules.specs.Kind.{Kind}
-use Rattle.rules.specs.Table.{row, body, Part}
-use Rattle.rules.specs.Reading.{Reader, onward, leads, meets, parts, through, read_premises, read_walk, read_formula, Progress}
+use Rattle.rules.specs.Table.{row, body, kind_for, Part}
+use Rattle.rules.specs.Reading.{Reader, leads, meets, parts, through, read_premises, read_walk, read_formula, Progress}
 use Rattle.rules.specs.declared.Rule.{Rule}
-use Rattle.rules.specs.declared.Stop.{Stop}
 use Rattle.hand.specs.Side.{sided}
 use Rattle.hand.specs.Setup.{AllSets, most_entries, entry_at, entry_of}
 use Rattle.hand.specs.Hand.{atom_in}
@@ -128,49 +126,26 @@ pub record Walking (sets : List Set) (entries : List Entry) (e : ℕ) (env : Env
   pub side : ℕ
   pub walk : OnWalk image table side sets entries e env s
 
--- How far a reading came, as a reader tells it: a place up to the steps' end; or one of three places past it for the three faults, and the fault's own place
--- besides.
-abbrev pub whether : Bool → Progress → Progress → Progress
-whether true p q = p
-whether false p q = q
-
-abbrev pub faulted : ℕ → ℕ → ℕ → Progress
-faulted size r fault =
-    whether (eqb r (size + 1)) (Err Stop.Missing) (whether (eqb r (size + 2)) (Err (Stop.Wrong fault)) (Err (Stop.Fails fault)))
-
-unfoldable pub told : ℕ → ℕ → ℕ → Progress
-told size r fault = whether (ltb size r) (faulted size r fault) (Ok r)
-
--- A fault is told: so far past the steps' end, and at a place.
-pub record Past (far : ℕ) (steps : List ℕ) (at fault r : ℕ) : Type 0 where
-  pub is : r ≡ length steps + far
-  pub place : fault ≡ at
-
 -- The stage at which a walk starts, by an entry's kind and term.
 pub record Started (kind t : ℕ) (env : Env) (s : ℕ) : Type 0 where
   pub is : s ≡ pick (ltb kind 6) 0 (value env (term_of t))
 
--- A walk may go on from s at c: s is not on it, c is a successor of s, and the entry's a has a lower number.
-pub record Led (sets : List Set) (entries : List Entry) (e : ℕ) (env : Env) (set s c : ℕ) : Type 0 where
-  pub walking : Walking sets entries e env s
-  pub lower : (entry_at entries e).a < e
-  pub off : Has set s → ⊥
-  pub next : T ((graph_of walking.image).next s c)
+-- Whether the own condition of a rule that is for the entry's formula holds, at the stage s of a walk.
+pub record Allowed (sets : List Set) (entries : List Entry) (e : ℕ) (env : Env) (rule : Rule) (set s : ℕ) (b : Bool) : Type 0 where
+  pub is : {image table : List ℕ} {side : ℕ} → InHand image table side sets entries e env → s < stages_of image → kind_for rule ≡ (entry_at entries e).kind
+      → b ≡ allows image (record_at table e) env set s rule
 
--- What the readers answer, from a place on: of an entry; of a walk; of a walk's a at a stage and then the walk at another; of a at each successor.
-module _ (sets : List Set) (entries : List Entry) (steps : List ℕ) (e : ℕ) (env : Env) where
-  pub record FormulaRead (at fault r : ℕ) : Type 0 where
-    pub is : {image table : List ℕ} {side : ℕ} → InHand image table side sets entries e env
-        → told (length steps) r fault ≡ read_entry image table steps side e env at
+-- How far the readers come, from a place on: of an entry; of a walk; of a at each successor of a stage; of the walk, with the stage added, at each.
+module _ (sets : List Set) (entries : List Entry) (bytes : List ℕ) (e : ℕ) (env : Env) where
+  pub record FormulaRead (at : ℕ) (p : Progress) : Type 0 where
+    pub is : {image table : List ℕ} {side : ℕ} → InHand image table side sets entries e env → p ≡ read_entry image table bytes side e env at
 
-  pub record WalkRead (set s at fault r : ℕ) : Type 0 where
+  pub record WalkRead (set s at : ℕ) (p : Progress) : Type 0 where
+    pub is : {image table : List ℕ} {side : ℕ} → OnWalk image table side sets entries e env s → p ≡ read_along image table bytes side e env set s at
+
+  pub record EachRead (s at : ℕ) (p : Progress) : Type 0 where
     pub is : {image table : List ℕ} {side : ℕ} → OnWalk image table side sets entries e env s
-        → told (length steps) r fault ≡ read_along image table steps side e env set s at
+        → p ≡ read_each_a image table bytes side e (record_at table e) env s at
 
-  pub record OnRead (set s c at fault r : ℕ) : Type 0 where
-    pub is : {image table : List ℕ} {side : ℕ} → OnWalk image table side sets entries e env s → T ((graph_of image).next s c)
-        → told (length steps) r fault ≡ onward (read_a image table steps side e (record_at table e) env s at) (read_on image table steps side e env set s c)
-
-  pub record EachRead (s at fault r : ℕ) : Type 0 where
-    pub is : {image table : List ℕ} {side : ℕ} → OnWalk image table side sets entries e env s
-        → told (length steps) r fault ≡ read_each_a image table steps side e (record_at table e) env s at
+  pub record OnRead (set s at : ℕ) (p : Progress) : Type 0 where
+    pub is : {image table : List ℕ} {side : ℕ} → OnWalk image table side sets entries e env s → p ≡ read_each_on image table bytes side e env set s at

@@ -17,7 +17,9 @@ use format::{Refusal, byte, question};
 use hand::env::Env;
 use hand::setup;
 use hand::setup::Entry;
+use rules::Stop;
 use sets::Set;
+use steps::Steps;
 
 // The side that a certificate proves, or the first of the refusals 1 to 13, 20 to 25.
 pub fn check(
@@ -68,42 +70,30 @@ fn steps_of(image: &[u8], table: &[u8], certificate: &[u8], q: Question) -> Resu
     let env = Env {
         slots: [q.start, 0, 0, 0],
     };
-    let mut fault = 0;
-    let end = steps::formula(
-        &all,
-        &entries,
-        certificate,
-        q.goal,
-        env,
-        header::BYTES,
-        &mut fault,
-    );
-    let size = certificate.len();
-    if end < size {
-        return Err(Fault {
+    let steps = Steps {
+        sets: &all,
+        entries: &entries,
+        bytes: certificate,
+    };
+    match steps.read(q.goal, env, header::BYTES) {
+        Ok(end) if end < certificate.len() => Err(Fault {
             refusal: Refusal::BytesRemain,
             place: end,
-        });
-    }
-    if end == size {
-        return Ok(side);
-    }
-    if end == size + 1 {
-        return Err(Fault {
+        }),
+        Ok(_) => Ok(side),
+        Err(Stop::Missing) => Err(Fault {
             refusal: Refusal::ByteMissing,
-            place: size,
-        });
-    }
-    if end == size + 2 {
-        return Err(Fault {
+            place: certificate.len(),
+        }),
+        Err(Stop::Wrong(place)) => Err(Fault {
             refusal: Refusal::WrongCode,
-            place: fault,
-        });
+            place,
+        }),
+        Err(Stop::Fails(place)) => Err(Fault {
+            refusal: Refusal::ConditionFails,
+            place,
+        }),
     }
-    Err(Fault {
-        refusal: Refusal::ConditionFails,
-        place: fault,
-    })
 }
 
 // The check for callers in C, as one number: `format::answer::code` says which.

@@ -4,8 +4,8 @@ use Prim.Native.Nat.{ℕ, ◌+◌, ◌*◌, ◌-◌}
 use lib.Count.{ones}
 use Rattle.sets.specs.Number.{number, width}
 use Rattle.hand.specs.Environment.{env_of}
-use Rattle.checker.proofs.LoopLaws.{AtEach, Going}
-use Rattle.checker.proofs.steps.+at_each_formula_go_on_walk.Given as goal
+use Rattle.checker.proofs.LoopLaws.{Loop, a_of, walk-of}
+use Rattle.checker.proofs.steps.Steps.+formula_walk.Given as goal
 
 -- How deep the reading of entry e along a walk may go.
 abbrev pub deep : ℕ → ℕ → ℕ
@@ -14,8 +14,8 @@ deep e set = 200 * e + 2 * (width - ones set)
 abbrev pub decreases-at_each : goal.decreases-at_each
 decreases-at_each l = 200 * l.e
 
-abbrev pub decreases-go_on : goal.decreases-go_on
-decreases-go_on l = deep l.e (number l.met) + 1
+abbrev pub decreases-on_at_each : goal.decreases-on_at_each
+decreases-on_at_each l = deep l.e (number l.met) + 1
 
 abbrev pub decreases-walk : goal.decreases-walk
 decreases-walk l = deep l.e (number l.met) + 2
@@ -24,9 +24,7 @@ abbrev pub decreases-formula : goal.decreases-formula
 decreases-formula l = 200 * l.e + 131
 
 abbrev pub invariant-at_each-loop-t : goal.invariant-at_each-loop-t
-invariant-at_each-loop-t l =
-    AtEach l.sets l.entries l.steps l.e (env_of l.env) l.s l.at (number l.t-iterator.left) l.here l.fault
+invariant-at_each-loop-t l = Loop (a_of l.self.bytes.now l.e (env_of l.env)) l.self.sets.now l.self.entries.now l.e (env_of l.env) l.s l.fn.at (number l.t-iterator.left) l.at
 
-abbrev pub invariant-walk-loop-t : goal.invariant-walk-loop-t
-invariant-walk-loop-t l =
-    Going l.sets l.entries l.steps l.e (env_of l.env) l.s (number l.fn.met) l.at (number l.t-iterator.left) l.here l.fault
+abbrev pub invariant-on_at_each-loop-t : goal.invariant-on_at_each-loop-t
+invariant-on_at_each-loop-t l = Loop (walk-of l.self.bytes.now l.e (env_of l.env) (number l.fn.met) l.s) l.self.sets.now l.self.entries.now l.e (env_of l.env) l.s l.fn.at (number l.t-iterator.left) l.at
