@@ -161,7 +161,7 @@ impl Set {
         let Some(sets) = bytes.get(start..) else {
             return Set::empty();
         };
-        match sets.as_chunks().0.get(i) {
+        match sets.as_chunks::<BYTES>().0.get(i) {
             Some(piece) => Set {
                 bits: u64::from_be_bytes(*piece),
             },
