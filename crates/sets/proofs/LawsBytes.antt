@@ -1,5 +1,10 @@
 -- Numbers that stand in bytes, big-endian, and the set that they store. That a slice of the code is bytes (`Bytes`) the borrow checker
 -- hands a proof where one is read: `λ i. (c.shared-slice-known.given i).fits`.
+--
+--     stored-in, stored-out         a stored set, where its bytes are all there and where they are not
+--     big_endian-eight              eight bytes are worth what the library says
+--     piece-stored, piece-none      a set of those stored one after another, as a piece of the bytes from a place on
+--
 -- Assumes nothing.
 use mathlib.Core.Path.{◌≡◌, refl, sym, ap, ◌∙◌}
 use mathlib.Core.Bool.{Bool}

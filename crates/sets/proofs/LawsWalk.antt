@@ -1,10 +1,10 @@
 -- A walk over the members of a set, lowest first, as `Set::stages` goes: k is the lowest of what is left, something is done with k, and the
--- others are left. `ones left` falls (`walk-falls`). Two invariants: one for a walk that gathers the members that pass a test, which is any
--- function to 0 and 1, and one for a walk that shows a property of each member. Each law takes what the contracts of `is_empty`,
--- `lowest`, `rest` and `with` say of the numbers before and after a turn (primed).
+-- others are left. `ones left` falls (`walk-falls`). The invariant of a walk that gathers the members that pass a test, which is any function to
+-- 0 and 1 (`Gathered`). Each law takes what the contracts of `is_empty`, `lowest`, `rest` and `with` say of the numbers before and after a turn
+-- (primed).
 -- Assumes nothing.
 use mathlib.Core.Path.{◌≡◌, sym, ap, ap₂, ◌∙◌, subst}
-use mathlib.Core.Logic.{◌⊎◌, inl, inr, ⊎_elim, ◌≢◌, ◌↔◌}
+use mathlib.Core.Logic.{⊎_elim, ◌≢◌, ◌↔◌}
 use Prim.Native.Nat.{ℕ, ◌^◌, ◌≤◌, ◌<◌, min, max}
 use native.Mathlib.Omega.{arith}
 use lib.Bits.{bit_or}
@@ -94,28 +94,3 @@ gather-end {left = left} g f j = omega (arith, g.each j, not-has left j (f j))
 pub gathered : {s : ℕ} {t : ℕ → ℕ} {left got : ℕ} → Gathered s t left got → Empty left
     → (j : ℕ) → t j ≤ 1 → Has got j ↔ (Has s j × (t j ≡ 1))
 gathered g f j l = (λ h. omega (arith, gather-end g f j), λ h. omega (arith, gather-end g f j))
-
--- ---- showing
-
--- each member of s is still left, or has the property
-pub record Shown (s : ℕ) (P : ℕ → Type 0) (left : ℕ) : Type 0 where
-  pub small : left < 2 ^ width
-  pub each : (j : ℕ) → Has s j → Has left j ⊎ P j
-
--- at the start every member is left
-pub show-start : (s : ℕ) (P : ℕ → Type 0) {left : ℕ} → s < 2 ^ width → left ≡ s → Shown s P left
-show-start s P h f = record { small = omega (arith, h, f); each = λ j m. inl (ap (λ (x : ℕ). bit x j) f ∙ m) }
-
--- the stage of a turn has it
-pub show-turn : {s : ℕ} {P : ℕ → Type 0} {left k left' : ℕ} → Shown s P left → Turn left k left' → P k → Shown s P left'
-show-turn {P = P} {k = k} g turn p = record {
-  small = walk-small turn g.small;
-  each = λ j m. ⊎_elim
-      (λ l. ⊎_elim (λ q. inr (subst P (sym q) p)) (λ q. inl (walk-other turn g.small j q ∙ l)) (same? j k))
-      inr
-      (g.each j m);
-}
-
--- at the end every member has it
-pub show-end : {s : ℕ} {P : ℕ → Type 0} {left : ℕ} → Shown s P left → Empty left → (j : ℕ) → Has s j → P j
-show-end g f j m = ⊎_elim (λ l. absurd (f j l)) (λ p. p) (g.each j m)

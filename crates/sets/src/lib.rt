@@ -2,7 +2,7 @@
 // nowhere above. Every function is total: a stage at or above the width is in no set.
 //
 // The contracts speak of the set's number (`number`), by the library's operations on numbers; `specs/Member.antt` says what membership
-// is, and `proofs/` has the laws of sets, over any width.
+// is, and `proofs/` has the laws of sets, over any width. The checks of this crate see what a set and a row are; those above it do not.
 #![tactic(auto, unfolding(crate::specs::Number::number, crate::specs::Number::single, crate::specs::Row::held, crate::specs::Row::room))]
 
 pub mod row;
@@ -43,9 +43,7 @@ impl Set {
             let next = power(n);
             Set { bits: next - 1 }
         } else {
-            Set {
-                bits: 0xffff_ffff_ffff_ffff,
-            }
+            Set { bits: u64::MAX }
         }
     }
 
@@ -163,7 +161,7 @@ impl Set {
         let Some(sets) = bytes.get(start..) else {
             return Set::empty();
         };
-        match sets.as_chunks().0.get(i) {
+        match sets.as_chunks::<BYTES>().0.get(i) {
             Some(piece) => Set {
                 bits: u64::from_be_bytes(*piece),
             },

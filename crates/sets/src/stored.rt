@@ -2,13 +2,13 @@
 ghost use Rattle.sets.specs.Number.{number};
 ghost use Rattle.sets.specs.Stored.{AtFront};
 
-use crate::Set;
+use crate::{BYTES, Set};
 
 // Stores the set at the front of the buffer, whose rest stays as it is; one that has no room for the set stays as it is whole.
 pub fn write(buffer: &mut [u8], s: Set)
     ensures { AtFront buffer.old (number s) buffer.new }
 {
-    if let Some(front) = buffer.first_chunk_mut() {
+    if let Some(front) = buffer.first_chunk_mut::<BYTES>() {
         *front = s.bits.to_be_bytes();
     }
 }

@@ -1,8 +1,7 @@
 -- `modal::meeting` meets its contract. The loop's invariant: of the stages asked, those that are found, and those still to come whose successors
 -- meet what is wanted, are all whose successors do.
-use mathlib.Core.Path.{refl, ap, ◌∙◌}
+use mathlib.Core.Path.{refl}
 use Rattle.model.specs.Decides.{decided, refuted}
-use Rattle.sets.specs.Number.{number}
 use Rattle.sets.proofs.LawsFits.{number_lt}
 use Rattle.sets.proofs.LawsWalk.{walk-begins, gather-start}
 use Rattle.modal.proofs.LawsNext.{walk-take, walk-skip, walk_end}
@@ -10,7 +9,8 @@ use Rattle.modal.proofs.meeting.Goals as goal
 
 pub loop-s-init : goal.loop-s-init
 loop-s-init c =
-    gather-start _ _ _ (number_lt _ _ c.well_formed.1.0) (walk-begins c.into_iter-s-iterator.ensures.into_iter_gives c.stages-s-items.ensures) c.empty-found.ensures
+    gather-start _ _ _ (number_lt _ _ c.well_formed.1.0) (walk-begins c.into_iter-s-iterator.ensures.into_iter_gives c.stages-s-items.ensures)
+    c.empty-found.ensures
 
 pub loop-s-preserved-then-not-is_empty : goal.loop-s-preserved-then-not-is_empty
 loop-s-preserved-then-not-is_empty c =
