@@ -9,7 +9,7 @@ use Rattle.sets.proofs.LawsWalk.{walk-begins}
 use Rattle.format.specs.Image.{graph_of}
 use Rattle.hand.specs.Environment.{env_of}
 use Rattle.pen.proofs.RunLaws.{run-row, run-readable, run-stages, run-a, run-b}
-use Rattle.pen.proofs.WroteLaws.{wrote-length, wrote-place, wrote-past, wrote-both, wrote-same, wrote_none}
+use Rattle.pen.proofs.WroteLaws.{wrote-place, wrote-past, wrote-both, wrote-same, wrote_none}
 use Rattle.pen.proofs.EachLaws.{each_start, each-stage, each-edge, each-end, each_next as turns-on}
 use Rattle.logic.specs.Test.{af as af_test}
 use Rattle.pen.specs.Steps.{af_steps, InHand}
@@ -18,7 +18,7 @@ use Rattle.pen.proofs.KindLaws.{is-not-steps, false-never, no_kind, and_both, an
 use Rattle.pen.proofs.KindLaws.{ex-steps}
 use Rattle.pen.proofs.WriterLaws.{start_is, start-below, ready_of, under, operand-wrote, stop-has, stop-lacks, next-all, walk-has, walk-lacks}
 use Rattle.pen.proofs.WriterLaws.{going_start, going_more, going_end, going_done, same-env, plain-wrote}
-use Rattle.pen.proofs.StepLaws.{collects-of, af-now-steps, af-later-steps, known_past, known-room, noted-new, noted_more, two_ends, ar-begins, ar-merges}
+use Rattle.pen.proofs.StepLaws.{collects-of, af-now-steps, af-later-steps, noted-new, two_ends, ar-begins, ar-merges}
 use Rattle.pen.proofs.StepLaws.{ar-releases, ar-goes, leads-of, nearest-of, eg-begins, eg-merges, eg-goes, one-ends, eu-begins, eu-stops, eu-goes, told-true}
 use Rattle.pen.proofs.StepLaws.{told-false, choice-of}
 use Rattle.pen.proofs.AfLaws.{lasts-start, lasts_on}
@@ -76,25 +76,6 @@ af_from-returns t c =
 pub af-returns-then-out-at : goal.af-returns-then-out-at
 af-returns-then-out-at t c =
     (wrote-past _ _ _ _ c.if-out-at.true, c.requires.noted)
-
-pub af-returns-then-out-at-2 : goal.af-returns-then-out-at-2
-af-returns-then-out-at-2 t c =
-    let run = c.args.self.now in
-    (known_past run c.requires _ _ (c.if-not-self.true) c.if-known-gt0.true refl c.if-out-at.false c.if-out-at-2.true, c.requires.noted)
-
-pub af-returns-then-known-gt0 : goal.af-returns-then-known-gt0
-af-returns-then-known-gt0 t c =
-    let run = c.args.self.now in
-    (known-room run c.requires _ _ (c.if-not-self.true) c.if-known-gt0.true refl c.if-out-at.false c.if-out-at-2.false, c.requires.noted)
-
-pub af-returns-then-end-out : goal.af-returns-then-end-out
-af-returns-then-end-out t c =
-    let run = c.args.self.now in
-    let af-step = c.af_step-end in (
-      af-step.ensures.0,
-      noted_more run c.args.e c.args.env _ af-step.ensures.1
-          af-step.ensures.0 (omega (arith, c.if-end-out.true, wrote-length af-step.ensures.0)),
-    )
 
 pub af_step-formula-requires : goal.af_step-formula-requires
 af_step-formula-requires t c =
