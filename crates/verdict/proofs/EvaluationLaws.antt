@@ -1,6 +1,6 @@
 -- The evaluation of an entry: what each arm of the code gives is what the test of the entry's formula says.
 --
---     ready-lower, ready-bound, ready-rule                    what an evaluation goes by, at a lower entry and under a binding
+--     ready-lower, ready-rule                                 what an evaluation goes by at a lower entry, and by which rules
 --     junction-first, junction-second, unary-operand, binary-first, binary-second
 --                                                             so that it can go on to an operand
 --     constant-arm, literal-arm, junction-arm, settled-arm, modal-arm, none-arm
@@ -71,16 +71,9 @@ module _ (setup : Setup) {e : ℕ} {env : Env} (ready : Ready setup.table.now se
 
   -- ---- what an evaluation goes by
 
-  -- At a lower entry,
+  -- At a lower entry.
   pub ready-lower : {o : ℕ} → o < e → Ready table n o env
   ready-lower h = record { entry = omega (arith, ready.entry); stand = ready.stand }
-
-  -- and where a variable stands at another stage.
-  pub ready-bound : {x s : ℕ} {here : Env} → x < 4 → s < n → Bound env x s here → Ready table n e here
-  ready-bound {x} h l b = record {
-    entry = ready.entry;
-    stand = subst (Stand n) (sym (b.here h)) (bind-stands ready.stand x l);
-  }
 
   -- The entry keeps its rules.
   pub ready-rule : Ruled image e (record_at table e)

@@ -1,10 +1,6 @@
 -- `guide::sides::where_on` meets its contract: the verdict's set, and on a side other than 0 the stages that are not in it.
-use Rattle.guide.proofs.SideLaws.{where-zero, where-dual}
+use Rattle.guide.proofs.SideLaws.{where-dual}
 use Rattle.guide.proofs.sides.where_on.Goals as goal
-
-pub returns-then-side-eq0 : goal.returns-then-side-eq0
-returns-then-side-eq0 c =
-    where-zero c.args.setup.now.image.now c.args.setup.now.table.now c.args.a.entry c.args.env _ _ _ _ c.if-side-eq0.true c.where_holds-held.ensures
 
 pub returns-else-side-eq0 : goal.returns-else-side-eq0
 returns-else-side-eq0 c =

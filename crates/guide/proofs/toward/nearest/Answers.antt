@@ -10,10 +10,6 @@ pub loop-init : goal.loop-init
 loop-init c =
     (search rules, λ G R. nearing-start R _ _ c.below-away.ensures c.requires.1)
 
-pub shape_of-toward-then-is_empty : goal.shape_of-toward-then-is_empty
-shape_of-toward-then-is_empty c =
-    c.loop.invariant.0
-
 pub returns-then-is_empty : goal.returns-then-is_empty
 returns-then-is_empty c =
     λ G R. nearing-rest R _ _ _ (c.loop.invariant.1 G R) c.some_next_among-new.ensures (decided _ c.is_empty.ensures c.if-is_empty.true)
@@ -30,9 +26,6 @@ loop-preserved c =
       λ G R. nearing-more R _ _ _ (inv.1 G R) c.some_next_among-new.ensures c.loop-test.true settle.ensures c.minus-away.ensures
           c.common.ensures c.union-near.ensures,
     )
-
-pub shape_of-toward : goal.shape_of-toward
-shape_of-toward c = c.loop.invariant.0
 
 pub returns : goal.returns
 returns c = λ G R. nearing-end R _ _ c.loop-test.false (c.loop.invariant.1 G R)

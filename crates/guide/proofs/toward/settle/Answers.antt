@@ -1,8 +1,6 @@
 -- `guide::toward::settle` meets its contract. The loop's invariant: the new stages that are not still to come are led to their lowest successor in the
 -- set.
-use mathlib.Core.Path.{ap, ◌∙◌}
 use native.Mathlib.Omega.{arith}
-use Rattle.sets.specs.Number.{number}
 use Rattle.sets.proofs.LawsFits.{number_lt}
 use Rattle.sets.proofs.LawsWalk.{walk-begins}
 use Rattle.guide.proofs.TowardLaws.{settle-start, settle-stage, settle-turn, settle-end}

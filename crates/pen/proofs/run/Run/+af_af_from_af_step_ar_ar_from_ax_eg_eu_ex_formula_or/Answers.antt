@@ -9,7 +9,7 @@ use Rattle.sets.proofs.LawsWalk.{walk-begins}
 use Rattle.format.specs.Image.{graph_of}
 use Rattle.hand.specs.Environment.{env_of}
 use Rattle.pen.proofs.RunLaws.{run-row, run-readable, run-stages, run-a, run-b}
-use Rattle.pen.proofs.WroteLaws.{wrote-length, wrote-place, wrote-past, wrote-both, wrote-same, wrote_none}
+use Rattle.pen.proofs.WroteLaws.{wrote-place, wrote-past, wrote-both, wrote-same, wrote_none}
 use Rattle.pen.proofs.EachLaws.{each_start, each-stage, each-edge, each-end, each_next as turns-on}
 use Rattle.logic.specs.Test.{af as af_test}
 use Rattle.pen.specs.Steps.{af_steps, InHand}
@@ -18,7 +18,7 @@ use Rattle.pen.proofs.KindLaws.{is-not-steps, false-never, no_kind, and_both, an
 use Rattle.pen.proofs.KindLaws.{ex-steps}
 use Rattle.pen.proofs.WriterLaws.{start_is, start-below, ready_of, under, operand-wrote, stop-has, stop-lacks, next-all, walk-has, walk-lacks}
 use Rattle.pen.proofs.WriterLaws.{going_start, going_more, going_end, going_done, same-env, plain-wrote}
-use Rattle.pen.proofs.StepLaws.{collects-of, af-now-steps, af-later-steps, known_past, known-room, noted-new, noted_more, two_ends, ar-begins, ar-merges}
+use Rattle.pen.proofs.StepLaws.{collects-of, af-now-steps, af-later-steps, noted-new, two_ends, ar-begins, ar-merges}
 use Rattle.pen.proofs.StepLaws.{ar-releases, ar-goes, leads-of, nearest-of, eg-begins, eg-merges, eg-goes, one-ends, eu-begins, eu-stops, eu-goes, told-true}
 use Rattle.pen.proofs.StepLaws.{told-false, choice-of}
 use Rattle.pen.proofs.AfLaws.{lasts-start, lasts_on}
@@ -77,47 +77,6 @@ pub af-returns-then-out-at : goal.af-returns-then-out-at
 af-returns-then-out-at t c =
     (wrote-past _ _ _ _ c.if-out-at.true, c.requires.noted)
 
-pub af-bounds-lens-i : goal.af-bounds-lens-i
-af-bounds-lens-i t c =
-    let run = c.args.self.now in
-    omega (arith, c.requires.below, (run-row run).room)
-
-pub af-returns-then-out-at-2 : goal.af-returns-then-out-at-2
-af-returns-then-out-at-2 t c =
-    let run = c.args.self.now in
-    (known_past run c.requires _ _ (c.if-not-self.true) c.if-known-gt0.true refl c.if-out-at.false c.if-out-at-2.true, c.requires.noted)
-
-pub af-returns-then-known-gt0 : goal.af-returns-then-known-gt0
-af-returns-then-known-gt0 t c =
-    let run = c.args.self.now in
-    (known-room run c.requires _ _ (c.if-not-self.true) c.if-known-gt0.true refl c.if-out-at.false c.if-out-at-2.false, c.requires.noted)
-
-pub af-af_step-end-requires : goal.af-af_step-end-requires
-af-af_step-end-requires t c =
-    (omega (arith, c.decreases), (c.requires, c.if-out-at.false))
-
-pub af-overflow_sub-lens : goal.af-overflow_sub-lens
-af-overflow_sub-lens t c =
-    omega (arith, c.af_step-end.ensures.0.goes, c.if-out-at.false)
-
-pub af-bounds-lens-i-then-end-out : goal.af-bounds-lens-i-then-end-out
-af-bounds-lens-i-then-end-out t c =
-    let run = c.args.self.now in
-    omega (arith, c.requires.below, (run-row run).room)
-
-pub af-returns-then-end-out : goal.af-returns-then-end-out
-af-returns-then-end-out t c =
-    let run = c.args.self.now in
-    let af-step = c.af_step-end in (
-      af-step.ensures.0,
-      noted_more run c.args.e c.args.env _ af-step.ensures.1
-          af-step.ensures.0 (omega (arith, c.if-end-out.true, wrote-length af-step.ensures.0)),
-    )
-
-pub af-returns-else-end-out : goal.af-returns-else-end-out
-af-returns-else-end-out t c =
-    c.af_step-end.ensures
-
 pub af_step-formula-requires : goal.af_step-formula-requires
 af_step-formula-requires t c =
     let run = c.args.self.now in
@@ -155,19 +114,6 @@ af_step-loop-t-init t c =
           (next-all run a.below c.load-there.ensures),
       a.noted,
     )
-
-pub af_step-overflow_cast-t : goal.af_step-overflow_cast-t
-af_step-overflow_cast-t t c =
-    let run = c.args.self.now in
-    let a = c.requires.0 in
-    let h = a.hand in
-    let row = run-row run in
-    let turn = c.in-Some.ensures.steps in
-    record { fits = omega (arith, row.room, each-stage row a.below _ _ _ _ c.loop-t.invariant.0 turn) }
-
-pub af_step-overflow_sub-left : goal.af_step-overflow_sub-left
-af_step-overflow_sub-left t c =
-    omega (arith, c.requires.0.lasts.before)
 
 pub af_step-af-here-requires : goal.af_step-af-here-requires
 af_step-af-here-requires t c =
@@ -332,19 +278,6 @@ ar-loop-t-init t c =
     each_start (run-row run) a.below _ _ _ _ (wrote-place c.formula-here.ensures) (number_lt _ _ c.load-there.type_inv) (walk-begins c.into_iter-t-iterator.ensures.into_iter_gives c.stages-t-items.ensures)
     (next-all run a.below c.load-there.ensures)
 
-pub ar-overflow_cast-t : goal.ar-overflow_cast-t
-ar-overflow_cast-t t c =
-    let run = c.args.self.now in
-    let a = c.requires in
-    let h = a.hand in
-    let row = run-row run in
-    let turn = c.in-Some.ensures.steps in
-    record { fits = omega (arith, row.room, each-stage row a.below _ _ _ _ c.loop-t.invariant turn) }
-
-pub ar-overflow_sub-left : goal.ar-overflow_sub-left
-ar-overflow_sub-left t c =
-    omega (arith, c.if-left-eq0.false)
-
 pub ar-ar-here-requires : goal.ar-ar-here-requires
 ar-ar-here-requires t c =
     let run = c.args.self.now in
@@ -433,11 +366,6 @@ eg-returns-then-has t c =
     (walk-has _ _ c.has.ensures c.if-has.true))
     c.rule.ensures)
 
-pub eg-bounds-toward-s : goal.eg-bounds-toward-s
-eg-bounds-toward-s t c =
-    let run = c.args.self.now in
-    omega (arith, c.loop.invariant.below, (run-row run).room)
-
 pub eg-formula-here-requires : goal.eg-formula-here-requires
 eg-formula-here-requires t c =
     let run = c.args.self.now in
@@ -451,11 +379,6 @@ eg-formula-here-requires t c =
       omega (arith, c.decreases, f.a, rule.a),
       under run h.holding f.a rule.a f.x (omega (arith, rule.x)) c.loop.invariant.below c.bound.ensures on.0,
     )
-
-pub eg-overflow_cast-s-in-loop : goal.eg-overflow_cast-s-in-loop
-eg-overflow_cast-s-in-loop t c =
-    let run = c.args.self.now in
-    record { fits = omega (arith, c.loop.invariant.below, (run-row run).room) }
 
 pub eg-loop-preserved : goal.eg-loop-preserved
 eg-loop-preserved t c =
@@ -536,11 +459,6 @@ eu-returns-then-has t c =
     (stop-has nows c.loop.invariant.below c.has.ensures c.if-has.true))
     (wrote-both c.rule-on.ensures
     (operand-wrote run f.b f.y (omega (arith, rule.y)) c.bound.ensures c.formula.ensures)))
-
-pub eu-bounds-toward-s : goal.eu-bounds-toward-s
-eu-bounds-toward-s t c =
-    let run = c.args.self.now in
-    omega (arith, c.loop.invariant.below, (run-row run).room)
 
 pub eu-formula-here-requires : goal.eu-formula-here-requires
 eu-formula-here-requires t c =
@@ -676,27 +594,6 @@ formula-returns-in-And t c =
     (wrote-both c.rule-on.ensures
     (wrote-both (plain-wrote run f.a _ c.formula-a.ensures) (plain-wrote run f.b _ c.formula.ensures)))
 
-pub formula-returns-in-Or : goal.formula-returns-in-Or
-formula-returns-in-Or t c = c.or.ensures
-
-pub formula-returns-in-AX : goal.formula-returns-in-AX
-formula-returns-in-AX t c = c.ax.ensures
-
-pub formula-returns-in-EX : goal.formula-returns-in-EX
-formula-returns-in-EX t c = c.ex.ensures
-
-pub formula-returns-in-AF : goal.formula-returns-in-AF
-formula-returns-in-AF t c = c.af_from.ensures
-
-pub formula-returns-in-EG : goal.formula-returns-in-EG
-formula-returns-in-EG t c = c.eg.ensures
-
-pub formula-returns-in-AR : goal.formula-returns-in-AR
-formula-returns-in-AR t c = c.ar_from.ensures
-
-pub formula-returns-in-EU : goal.formula-returns-in-EU
-formula-returns-in-EU t c = c.eu.ensures
-
 pub or-holds_on-requires : goal.or-holds_on-requires
 or-holds_on-requires t c =
     let run = c.args.self.now in
@@ -756,16 +653,6 @@ ax-loop-t-init t c =
     let below = start-below run h.holding rule.t in
     each_start row below _ _ _ _ (wrote-place c.rule-here.ensures) (number_lt _ _ c.load-there.type_inv) (walk-begins c.into_iter-t-iterator.ensures.into_iter_gives c.stages-t-items.ensures)
     (next-all run below (c.load-there.ensures ∙ ap (held run.setup.next.now) (start_is run h.holding f c.stage_of.ensures)))
-
-pub ax-overflow_cast-t : goal.ax-overflow_cast-t
-ax-overflow_cast-t t c =
-    let run = c.args.self.now in
-    let h = c.requires.0 in
-    let rule = rule-of run h in
-    let row = run-row run in
-    let below = start-below run h.holding rule.t in
-    let turn = c.in-Some.ensures.steps in
-    record { fits = omega (arith, row.room, each-stage row below _ _ _ _ c.loop-t.invariant turn) }
 
 pub ax-formula-here-requires : goal.ax-formula-here-requires
 ax-formula-here-requires t c =

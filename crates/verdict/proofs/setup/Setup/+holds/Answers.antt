@@ -17,9 +17,6 @@ holds-requires t c =
     let o = junction-second c.args.self.now c.requires (row c.entry-r.ensures c.kind_of-kind.ensures c.sort_of.ensures c.in-Junction.is) in
     (omega (arith, c.decreases, o.0), o.1)
 
-pub holds_from-requires : goal.holds_from-requires
-holds_from-requires t c = c.requires
-
 pub returns-in-Constant : goal.returns-in-Constant
 returns-in-Constant t c =
     constant-truth c.args.self.now c.requires (row c.entry-r.ensures c.kind_of-kind.ensures c.sort_of.ensures c.in-Constant.is)

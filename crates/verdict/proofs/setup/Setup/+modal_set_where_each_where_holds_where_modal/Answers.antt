@@ -7,9 +7,9 @@ use Rattle.model.specs.Decides.{refuted}
 use Rattle.sets.specs.Number.{number}
 use Rattle.format.proofs.TreeLaws.{row}
 use Rattle.verdict.specs.Kinds.{is_first}
-use Rattle.verdict.proofs.CollectLaws.{collects-start, collects-take, collects-skip, collects-end}
+use Rattle.verdict.proofs.CollectLaws.{collects-take, collects-skip}
 use Rattle.verdict.proofs.EvaluationLaws.{constant-arm, literal-arm, junction-arm, settled-arm, modal-arm, none-arm, unary-set, binary-set, no-set}
-use Rattle.verdict.proofs.EvaluationLaws.{each_turn, once-arm, ready-bound, ready-rule, unary-operand, binary-first, binary-second, junction-first}
+use Rattle.verdict.proofs.EvaluationLaws.{each_turn, once-arm, ready-rule, unary-operand, binary-first, binary-second, junction-first}
 use Rattle.verdict.proofs.EvaluationLaws.{junction-second}
 use Rattle.verdict.proofs.setup.Setup.+modal_set_where_each_where_holds_where_modal.Goals as goal
 use Rattle.verdict.proofs.setup.Setup.+modal_set_where_each_where_holds_where_modal.Goals.{where_each-then-has, where_each-else-has}
@@ -43,16 +43,6 @@ pub modal_set-returns-in-Constant : goal.modal_set-returns-in-Constant
 modal_set-returns-in-Constant t c =
     no-set c.args.self.now c.requires _ (row c.entry-r.ensures c.kind_of-kind.ensures c.sort_of.ensures refl) c.in-Constant.is c.empty.ensures
 
-pub where_each-loop-s-init : goal.where_each-loop-s-init
-where_each-loop-s-init t c = (search rules, collects-start _ c.empty-found.ensures)
-
-pub where_each-overflow_cast-s : goal.where_each-overflow_cast-s
-where_each-overflow_cast-s t c = omega (arith, c.args.self.now.row.room)
-
-pub where_each-modal_set-from-requires : goal.where_each-modal_set-from-requires
-where_each-modal_set-from-requires t c =
-    (omega (arith, c.decreases), ready-bound c.args.self.now c.requires.0 c.requires.1 c.loop-s-test.true c.bound-here.ensures)
-
 pub where_each-loop-s-preserved : goal.where_each-loop-s-preserved
 where_each-loop-s-preserved t c =
     let inv = c.loop-s.invariant in
@@ -66,12 +56,6 @@ where_each-loop-s-preserved t c =
       ],
     )
 
-pub where_each-returns : goal.where_each-returns
-where_each-returns t c = collects-end c.loop-s.invariant.0 c.loop-s-test.false c.loop-s.invariant.1
-
-pub where_holds-where_literal-requires : goal.where_holds-where_literal-requires
-where_holds-where_literal-requires t c = c.requires.1
-
 pub where_holds-where_holds-a-requires : goal.where_holds-where_holds-a-requires
 where_holds-where_holds-a-requires t c =
     let o = junction-first c.args.self.now c.requires.0 (row c.entry-r.ensures c.kind_of-kind.ensures c.sort_of.ensures c.in-Junction.is) in
@@ -81,10 +65,6 @@ pub where_holds-where_holds-requires : goal.where_holds-where_holds-requires
 where_holds-where_holds-requires t c =
     let o = junction-second c.args.self.now c.requires.0 (row c.entry-r.ensures c.kind_of-kind.ensures c.sort_of.ensures c.in-Junction.is) in
     (omega (arith, c.decreases, o.0), (o.1, c.requires.1))
-
-pub where_holds-where_modal-requires : goal.where_holds-where_modal-requires
-where_holds-where_modal-requires t c =
-    (omega (arith, c.decreases), c.requires)
 
 pub where_holds-returns-in-Constant : goal.where_holds-returns-in-Constant
 where_holds-returns-in-Constant t c =
@@ -120,17 +100,6 @@ where_holds-returns-in-NoSort t c =
 
 pub where_modal-depends-requires : goal.where_modal-depends-requires
 where_modal-depends-requires t c = (ready-rule c.args.self.now c.requires.0, c.requires.1)
-
-pub where_modal-where_each-requires : goal.where_modal-where_each-requires
-where_modal-where_each-requires t c =
-    (omega (arith, c.decreases), c.requires)
-
-pub where_modal-modal_set-requires : goal.where_modal-modal_set-requires
-where_modal-modal_set-requires t c =
-    (omega (arith, c.decreases), c.requires.0)
-
-pub where_modal-returns-then-depends : goal.where_modal-returns-then-depends
-where_modal-returns-then-depends t c = c.where_each.ensures
 
 pub where_modal-returns-else-depends : goal.where_modal-returns-else-depends
 where_modal-returns-else-depends t c =

@@ -1,11 +1,7 @@
 -- `verdict::setup::Setup::settled` meets its contract: "and" is settled by the empty set, "or" by every stage below n.
 use Rattle.sets.specs.Number.{number}
-use Rattle.verdict.proofs.CollectLaws.{settled-none, settled-all}
+use Rattle.verdict.proofs.CollectLaws.{settled-all}
 use Rattle.verdict.proofs.setup.Setup.settled.Goals as goal
-
-pub returns-then-first : goal.returns-then-first
-returns-then-first c =
-    settled-none c.is_empty.result c.args.self.now.stages (number c.args.a) c.if-first.true c.is_empty.ensures
 
 pub returns-else-first : goal.returns-else-first
 returns-else-first c =

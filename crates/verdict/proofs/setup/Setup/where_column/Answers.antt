@@ -4,12 +4,9 @@ use native.Mathlib.Omega.{arith}
 use borrow.Author.Rules.{rules}
 use Rattle.sets.specs.Number.{number}
 use Rattle.verdict.proofs.AtomLaws.{column-turn}
-use Rattle.verdict.proofs.CollectLaws.{collects-start, collects-take, collects-skip, collects-end}
+use Rattle.verdict.proofs.CollectLaws.{collects-take, collects-skip}
 use Rattle.verdict.proofs.setup.Setup.where_column.Goals as goal
 use Rattle.verdict.proofs.setup.Setup.where_column.Goals.{then-has, else-has}
-
-pub loop-s-init : goal.loop-s-init
-loop-s-init c = (search rules, collects-start _ c.empty-found.ensures)
 
 pub loop-s-preserved : goal.loop-s-preserved
 loop-s-preserved c =
@@ -22,6 +19,3 @@ loop-s-preserved c =
         | else-has w ↦ collects-skip inv.1 (sym own ∙ w.if-has.false) (ap number w.found-is)
       ],
     )
-
-pub returns : goal.returns
-returns c = collects-end c.loop-s.invariant.0 c.loop-s-test.false c.loop-s.invariant.1
