@@ -67,7 +67,6 @@ ruled-side image e r (suc n) K.AF h = h
 ruled-side image e r (suc n) K.EG h = h
 ruled-side image e r (suc n) K.AR h = h
 ruled-side image e r (suc n) K.EU h = h
-ruled-side image e r (suc n) K.NoKind h = absurd h
 
 -- The kinds from 6 on are those of the modalities, whose walk starts at their term.
 start-number : (k : Kind) (s : ℕ) → pick (ltb (number_of k) 6) 0 s ≡ start_as (sort_of k) s
@@ -83,7 +82,6 @@ start-number K.AF s = refl
 start-number K.EG s = refl
 start-number K.AR s = refl
 start-number K.EU s = refl
-start-number K.NoKind s = refl
 
 modal-term : (image : List ℕ) (e : ℕ) (r : Record) (k : Kind) → 6 ≤ number_of k → RuledAs (sort_of k) image e r → IsTerm (stages_of image) r.t
 modal-term image e r K.True l h = absurd (omega arith)
@@ -98,7 +96,6 @@ modal-term image e r K.AF l h = h.t
 modal-term image e r K.EG l h = h.t
 modal-term image e r K.AR l h = h.t
 modal-term image e r K.EU l h = h.t
-modal-term image e r K.NoKind l h = absurd (omega arith)
 
 -- A binding at a stage leaves every variable at one.
 pub bound-inside : {env env' : Slots} {x t n : ℕ} → Bound env x t env' → x < 4 → ((v : ℕ) → env_of env v < n) → t < n → (v : ℕ) → env_of env' v < n
@@ -164,7 +161,7 @@ module _ {image table : List ℕ} {sets : List Set} {entries : List Entry} {side
       (sym (h.is ∙ ap (λ (b : Bool). pick b 0 (value env (term_of ((entry_at entries e).t)))) (le-ltb ((entry_at entries e).kind) 6 l)))
       (subst (λ (t : ℕ). value env (term_of t) < stages_of image) (sym t-is) (term-inside
       (modal-term image e (record_at table e) (kind_on side (kind_of (record_at table e).kind)) (subst (λ (k : ℕ). 6 ≤ k) kind-is l)
-      (ruled-side image e (record_at table e) side (kind_of (record_at table e).kind) (hand.lent.ruled e hand.below))))))
+      (ruled-side image e (record_at table e) side (kind_of (record_at table e).kind) (hand.lent.ruled e hand.below).keeps)))))
       (side? ((entry_at entries e).kind) 6)
 
 -- ---- operands
@@ -279,9 +276,9 @@ module _ {image table : List ℕ} {sets : List Set} {entries : List Entry} {step
   pub arm-ruled : RuledAs (sort_of (kind_of (kind_for q))) image e (record_at table e)
   arm-ruled =
       let k = kind_on side (kind_of (record_at table e).kind) in
-      let k-is : k ≡ kind_of (kind_for q) = of_number k (λ o. not-one (for-kind ∙ o)) ∙ ap kind_of (sym for-kind) in
+      let k-is : k ≡ kind_of (kind_for q) = of_number k ∙ ap kind_of (sym for-kind) in
       subst (λ (j : Kind). RuledAs (sort_of j) image e (record_at table e)) k-is
-      (ruled-side image e (record_at table e) side (kind_of (record_at table e).kind) (arm.hand.lent.ruled e arm.hand.below))
+      (ruled-side image e (record_at table e) side (kind_of (record_at table e).kind) (arm.hand.lent.ruled e arm.hand.below).keeps)
 
   module _ (set s : ℕ) where
     -- Its condition fails,

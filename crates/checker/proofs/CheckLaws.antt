@@ -61,7 +61,6 @@ ruled-small S.Atom image e r h = (omega (arith, h.x), omega (arith, h.y))
 ruled-small S.Junction image e r h = (omega (arith, h.x), omega (arith, h.y))
 ruled-small S.Unary image e r h = (omega (arith, h.x), omega (arith, h.y))
 ruled-small S.Binary image e r h = (omega (arith, h.x), omega (arith, h.y))
-ruled-small S.NoSort image e r h = absurd h
 
 module _ (image table : List ℕ) (clear : Clear (setup_conditions image table)) where
   total : length table ≡ 6 + 6 * entries_of table
@@ -73,7 +72,7 @@ module _ (image table : List ℕ) (clear : Clear (setup_conditions image table))
   both_small : (e : ℕ) → ((record_at table e).x < 4) × ((record_at table e).y < 4)
   both_small e =
       ⊎_elim
-      (λ h. ruled-small (sort_of (kind_of (record_at table e).kind)) image e (record_at table e) (ruled image table clear e h))
+      (λ h. ruled-small (sort_of (kind_of (record_at table e).kind)) image e (record_at table e) (ruled image table clear e h).keeps)
       (λ h. (past (9 + 6 * e) (omega (arith, total, h)), past (10 + 6 * e) (omega (arith, total, h))))
       (side? e (entries_of table))
 

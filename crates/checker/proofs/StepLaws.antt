@@ -23,8 +23,7 @@ use Rattle.rules.specs.Reading.{Reader, headed, asked, leads, meets, parts, read
 use Rattle.rules.specs.declared.Rule.{Rule}
 use Rattle.std.specs.Prelude.{Ok, Err}
 use Rattle.rules.specs.declared.Stop.{Stop}
-use Rattle.rules.proofs.Heads.{head-begins, not-false}
-use Rattle.rules.proofs.StepLaws.{number-kind}
+use Rattle.rules.proofs.Heads.{head-begins}
 use Rattle.hand.specs.Side.{number_of}
 use Rattle.hand.specs.Hand.{start_as}
 use Rattle.checker.specs.Reading.{binds, within}
@@ -67,7 +66,6 @@ module _ (room : ℕ) (G : Graph) (bytes image : List ℕ) (tree : ℕ → Formu
   by_kind K.EG fuel w s at = refl
   by_kind K.AR fuel w s at = refl
   by_kind K.EU fuel w s at = refl
-  by_kind K.NoKind fuel w s at = refl
 
   pub start-kind : (k : Kind) → (S k).stage ≡ start_as (sort_of k) (value env (term_of r.t))
   start-kind K.True = refl
@@ -82,7 +80,6 @@ module _ (room : ℕ) (G : Graph) (bytes image : List ℕ) (tree : ℕ → Formu
   start-kind K.EG = refl
   start-kind K.AR = refl
   start-kind K.EU = refl
-  start-kind K.NoKind = refl
 
   -- a and b, with x and y bound or not; and what a rule asks, and then proves by
   abbrev pub read_first : Bool → ℕ → Reader
@@ -124,6 +121,5 @@ module _ (room : ℕ) (G : Graph) (bytes image : List ℕ) (tree : ℕ → Formu
       → (again : ℕ → Reader) (w : Walk) (s : ℕ) → rule-read k again w s at q next ≡ asked (asks w s q) at (proves again s q next)
   by-rule k {q} at {next} h again w s =
       let for-k : kind_for q ≡ number_of k = (head-begins bytes at (number_of k) h).1 in
-      let k-is : k ≡ kind_of (kind_for q) =
-      of_number k (λ e. not-false q (number-kind (row q).kind _ (for-k ∙ e))) ∙ ap kind_of (sym for-k) in
+      let k-is : k ≡ kind_of (kind_for q) = of_number k ∙ ap kind_of (sym for-k) in
       subst (λ (j : Kind). rule-read j again w s at q next ≡ asked (asks w s q) at (proves again s q next)) (sym k-is) (at-kind q again w s at next)

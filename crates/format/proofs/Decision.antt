@@ -9,6 +9,8 @@ use mathlib.Core.Logic.{◌⊎◌, inl, inr, ⊎_elim}
 use lib.ListN.{length, get_or}
 use lib.Dec.{T, leb, eqb}
 use borrow.Author.Tests.{leb-true, leb-false, eqb-true, eqb-false}
+use Rattle.std.specs.Prelude.{Option, Some, None, IsSome}
+use Rattle.std.proofs.lemmas.Bool.{false≢true}
 use Rattle.model.specs.Formula.{Formula, truth, falsity, is, is_not, and, or, AX, EX, AF, EG, AR}
 use Rattle.model.specs.Formula.{EU, Term, stage, variable, Atom, one, two, Names, FreeInAtom, Under, Free, nesting}
 use Rattle.sets.proofs.LawsMember.{side?, empty-zero, within-lt, has-below, has-lt}
@@ -18,7 +20,7 @@ use Rattle.format.specs.Bytes.{Begins, byte_at, word_at}
 use Rattle.format.specs.Refusal.{number, Condition, Given, Clear}
 use Rattle.format.specs.Image.{stages_of, predicates_of, arity_of, sets_in, set_of, length_of, SizesFit}
 use Rattle.format.specs.Image.{ArityFits, LengthFits, HighBitIn, HighBit, DeadStop, image_conditions}
-use Rattle.format.specs.Table.{entries_of, record_at, kind_of, sort_of, IsTerm, a_stage, a_variable, SecondTerm, unused, used}
+use Rattle.format.specs.Table.{entries_of, record_at, kind_with, kind_of, sort_of, IsTerm, a_stage, a_variable, SecondTerm, unused, used}
 use Rattle.format.specs.Table.{RuledAs, Ruled, operands, tree_of}
 use Rattle.format.specs.Table.{EntriesFit, BadRecord, Twice, OperandTwice, NestedTooDeep, table_conditions}
 use Rattle.format.specs.Question.{OtherFree, goal_conditions, setup_conditions, question_conditions}
@@ -203,10 +205,15 @@ ruled-as? S.Binary image e r =
     (λ p. record { a = p.0; b = p.1.0; x = p.1.1.0; y = p.1.1.1.0; t = p.1.1.1.1 })
     (λ k. (k.a, (k.b, (k.x, (k.y, k.t)))))
     (both? (lt? r.a e) (both? (lt? r.b e) (both? (le? r.x 3) (both? (le? r.y 3) (term? (stages_of image) r.t)))))
-ruled-as? S.NoSort image e r = no (λ none. none)
+
+abbrev there? : {A : Type 0} (o : Option A) → Dec (IsSome o)
+there? (Some x) = yes refl
+there? None = no false≢true
 
 abbrev pub ruled? : (image : List ℕ) (e : ℕ) (r : Record) → Dec (Ruled image e r)
-ruled? image e r = ruled-as? (sort_of (kind_of r.kind)) image e r
+ruled? image e r =
+    same-as (λ p. record { known = p.0; keeps = p.1 }) (λ k. (k.known, k.keeps))
+    (both? (there? (kind_with r.kind)) (ruled-as? (sort_of (kind_of r.kind)) image e r))
 
 abbrev pub bad-record? : (image table : List ℕ) → Dec (BadRecord image table)
 bad-record? image table =

@@ -39,12 +39,11 @@ ruled-small S.Atom image e r h rule = small-none
 ruled-small S.Junction image e r h rule = small-two r.a r.b (omega (arith, rule.a)) (omega (arith, rule.b))
 ruled-small S.Unary image e r h rule = small_one r.a (omega (arith, rule.a))
 ruled-small S.Binary image e r h rule = small-two r.a r.b (omega (arith, rule.a)) (omega (arith, rule.b))
-ruled-small S.NoSort image e r h rule = small-none
 
 -- In a table of at most 64 entries without a bad record every operand is small.
 pub all_small : (image table : List ℕ) → EntriesFit table → (BadRecord image table → ⊥) → AllSmall table
 all_small image table fits good e h =
-    ruled-small (sort_of (kind_of (record_at table e).kind)) image e (record_at table e) (omega (arith, fits.most)) (all-ruled image table good e h)
+    ruled-small (sort_of (kind_of (record_at table e).kind)) image e (record_at table e) (omega (arith, fits.most)) (all-ruled image table good e h).keeps
 
 -- What the shape of a readable image and table says of them.
 module _ {image table : List ℕ} {shape : Shape} (was : TableRead image table shape) where

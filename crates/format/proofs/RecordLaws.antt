@@ -1,13 +1,16 @@
--- What the proofs of the records' rules cite: an entry past the table's end, and kinds above 11.
-use Prim.Native.Nat.{ℕ, suc, ◌+◌, ◌*◌, ◌/◌, ◌≤◌, ◌<◌}
+-- What the proofs of the records' rules cite: an entry past the table's end, and the rules of a row.
+use Prim.Native.Nat.{ℕ, ◌+◌, ◌*◌, ◌/◌, ◌≤◌, ◌<◌}
 use native.Mathlib.Omega.{arith}
-use mathlib.Core.Path.{◌≡◌, sym, subst⁻¹}
-use mathlib.Core.Bool.{Bool}
-use mathlib.Core.List.{List, [], ◌∷◌}
+use mathlib.Core.Path.{◌≡◌, sym, ap, ◌∙◌, subst⁻¹}
+use mathlib.Core.Bool.{Bool, true, false}
+use mathlib.Core.List.{List}
 use lib.ListN.{length, get_or-eq_default}
+use Rattle.std.specs.Prelude.{Some, None, is_some}
+use Rattle.std.proofs.lemmas.Bool.{false≢true}
+use Rattle.std.proofs.lemmas.Option.{get_or_from_slice_get}
 use Rattle.model.specs.Decides.{Decides}
 use Rattle.format.specs.Bytes.{byte_at}
-use Rattle.format.specs.Table.{record_at, kind_of, sort_of, RuledAs, Ruled}
+use Rattle.format.specs.Table.{record_at, kinds, kind_with, kind_of, sort_of, RuledAs, Ruled}
 use Rattle.format.specs.declared.record.Record.{Record}
 use Rattle.format.specs.declared.record.Sort.{Sort}
 use Rattle.format.specs.declared.record.Kind.{Kind}
@@ -30,22 +33,17 @@ entry_past table e h =
       t = past table (11 + 6 * e) (omega arith) i;
     }
 
--- A number above 11 is no kind.
-pub no_kind : (k : ℕ) → 12 ≤ k → K.NoKind ≡ kind_of k
-no_kind k h =
-    sym
-    (get_or-eq_default
-    (K.True ∷ K.False ∷ K.Is ∷ K.IsNot ∷ K.And ∷ K.Or ∷ K.AX ∷ K.EX ∷ K.AF ∷ K.EG ∷ K.AR ∷ K.EU ∷ [])
-    K.NoKind
-    h)
-
--- A number at least i that is not i is at least one more: what the arms of a `match` leave for its last one.
-pub past-arm : {i k : ℕ} → i ≤ k → (k ≡ i → ⊥) → suc i ≤ k
-past-arm h f = omega arith
+-- What is no kind keeps no rules.
+pub no_kind : {image : List ℕ} {e : ℕ} {r : Record} → kind_with r.kind ≡ None → Ruled image e r → ⊥
+no_kind none rule = false≢true (sym (ap is_some none) ∙ rule.known)
 
 -- What the rules of a record's row decide, they decide of the record: from the kind and the row as the code found them.
-pub by_row : (row : Sort) (image : List ℕ) (e : ℕ) (r : Record) (ok : Bool) (kind : Kind) (found : Sort) → kind ≡ kind_of r.kind → found ≡ sort_of kind
-    → found ≡ row → Decides ok (RuledAs row image e r) → Decides ok (Ruled image e r)
-by_row row image e r ok kind found kind-is found-is is d =
-    let same : sort_of (kind_of r.kind) ≡ row = cc in
-    subst⁻¹ (λ (s : Sort). Decides ok (RuledAs s image e r)) same d
+pub by_row : (row : Sort) (image : List ℕ) (e : ℕ) (r : Record) (ok : Bool) {kind : Kind} {found : Sort} → kind_with r.kind ≡ Some kind
+    → found ≡ sort_of kind → found ≡ row → Decides ok (RuledAs row image e r) → Decides ok (Ruled image e r)
+by_row row image e r ok {kind} known found-is is d =
+    let same : sort_of (kind_of r.kind) ≡ row = ap sort_of (get_or_from_slice_get kinds r.kind kind K.False known) ∙ sym found-is ∙ is in
+    go ok (subst⁻¹ (λ (s : Sort). Decides ok (RuledAs s image e r)) same d)
+  where
+    go : (ok : Bool) → Decides ok (RuledAs (sort_of (kind_of r.kind)) image e r) → Decides ok (Ruled image e r)
+    go true keeps = record { known = ap is_some known; keeps = keeps }
+    go false breaks = λ rule. breaks rule.keeps

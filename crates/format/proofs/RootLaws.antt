@@ -54,7 +54,6 @@ row-lower S.Binary image e r o zero rule h is =
 row-lower S.Binary image e r o (suc zero) rule h is =
     (omega (arith, rule.b), λ d. subst (λ (x : ℕ). d x ≤ suc (max (d r.a) (d r.b))) is (omega arith))
 row-lower S.Binary image e r o (suc (suc i)) rule h is = absurd (omega arith)
-row-lower S.NoSort image e r o i rule h is = absurd (omega arith)
 
 -- An operand has a lower number than its entry, and its formula nests no deeper.
 nests-lower : (image table : List ℕ) (e o : ℕ) → Ruled image e (record_at table e) → In o (operands_in (record_at table e))
@@ -62,7 +61,7 @@ nests-lower : (image table : List ℕ) (e o : ℕ) → Ruled image e (record_at 
 nests-lower image table e o rule p =
     let r = record_at table e in
     let tree = nth (trees image table e) in
-    let found = row-lower (sort_of (kind_of r.kind)) image e r o p.0 rule p.1 p.2 in (
+    let found = row-lower (sort_of (kind_of r.kind)) image e r o p.0 rule.keeps p.1 p.2 in (
       found.0,
       omega (
         arith,

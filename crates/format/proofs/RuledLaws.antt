@@ -50,7 +50,6 @@ module _ (image : List ℕ) (r : Record) (few : stages_of image ≤ 64) where
   row_below S.Junction e rule a b = (a rule.a, b rule.b)
   row_below S.Unary e rule a b = (term-below few rule.t, a rule.a)
   row_below S.Binary e rule a b = (term-below few rule.t, a rule.a, b rule.b)
-  row_below S.NoSort e rule a b = tt
 
   row-free : (s : Sort) (e v : ℕ) {A B : Type 0}
       → RuledAs s image e r → (r.a < e → A → v < 4) → (r.b < e → B → v < 4) → FreeAs s image r v A B → v < 4
@@ -60,7 +59,6 @@ module _ (image : List ℕ) (r : Record) (few : stages_of image ≤ 64) where
   row-free S.Unary e v rule a b f = ⊎_elim (term-names few v rule.t) (λ g. a rule.a g.1) f
   row-free S.Binary e v rule a b f =
       ⊎_elim (term-names few v rule.t) (⊎_elim (λ g. a rule.a g.1) (λ g. b rule.b g.1)) f
-  row-free S.NoSort e v rule a b f = absurd f
 
 -- ---- tables
 
@@ -71,12 +69,12 @@ module _ (image table : List ℕ) (m : ℕ) (few : stages_of image ≤ 64) (rule
       tree-each image table (Below (stages_of image)) m
       (λ e h before. let r = record_at table e in
       (below-made image (nth (trees image table e)) r refl (stages_of image)).1
-      (row_below image r few (sort_of (kind_of r.kind)) e (ruled e h) (before r.a) (before r.b)))
+      (row_below image r few (sort_of (kind_of r.kind)) e (ruled e h).keeps (before r.a) (before r.b)))
 
   -- A variable that is free in it is 0 to 3.
   pub ruled-free : (v e : ℕ) → e < m → Free v (tree_of image table e) → v < 4
   ruled-free v =
       tree-each image table (λ (t : Formula). Free v t → v < 4) m
       (λ e h before f. let r = record_at table e in
-      row-free image r few (sort_of (kind_of r.kind)) e v (ruled e h) (before r.a) (before r.b)
+      row-free image r few (sort_of (kind_of r.kind)) e v (ruled e h).keeps (before r.a) (before r.b)
       ((free-made image (nth (trees image table e)) r refl v).0 f))

@@ -100,7 +100,6 @@ nesting_as S.Atom a b = 0
 nesting_as S.Junction a b = max a b
 nesting_as S.Unary a b = suc a
 nesting_as S.Binary a b = suc (max a b)
-nesting_as S.NoSort a b = 0
 
 -- When v is free in it: A and B say when v is in the operands.
 abbrev pub FreeAs : Sort → List ℕ → Record → ℕ → Type 0 → Type 0 → Type 0
@@ -109,7 +108,6 @@ FreeAs S.Atom image r v A B = FreeInAtom v (atom_of image r)
 FreeAs S.Junction image r v A B = A ⊎ B
 FreeAs S.Unary image r v A B = Names v (term_of r.t) ⊎ Under v r.x A
 FreeAs S.Binary image r v A B = Names v (term_of r.t) ⊎ (Under v r.x A ⊎ Under v r.y B)
-FreeAs S.NoSort image r v A B = ⊥
 
 -- When every stage that it names is below n: A and B say when those of the operands are.
 abbrev pub BelowAs : Sort → List ℕ → Record → ℕ → Type 0 → Type 0 → Type 0
@@ -118,7 +116,6 @@ BelowAs S.Atom image r n A B = AtomBelow n (atom_of image r)
 BelowAs S.Junction image r n A B = A × B
 BelowAs S.Unary image r n A B = TermBelow n (term_of r.t) × A
 BelowAs S.Binary image r n A B = TermBelow n (term_of r.t) × A × B
-BelowAs S.NoSort image r n A B = Unit {0}
 
 -- Each kind is as its row says, and so is a record whose kind's row is known.
 module _ (image : List ℕ) (tree : ℕ → Formula) (r : Record) where
@@ -135,7 +132,6 @@ module _ (image : List ℕ) (tree : ℕ → Formula) (r : Record) where
   nesting-kind K.EG = refl
   nesting-kind K.AR = refl
   nesting-kind K.EU = refl
-  nesting-kind K.NoKind = refl
 
   free-kind : (v : ℕ) (k : Kind) → Free v (made_as k image tree r) ↔ FreeAs (sort_of k) image r v (Free v (tree r.a)) (Free v (tree r.b))
   free-kind v K.True = Iff.rfl
@@ -150,7 +146,6 @@ module _ (image : List ℕ) (tree : ℕ → Formula) (r : Record) where
   free-kind v K.EG = Iff.rfl
   free-kind v K.AR = Iff.rfl
   free-kind v K.EU = Iff.rfl
-  free-kind v K.NoKind = Iff.rfl
 
   below-kind : (n : ℕ) (k : Kind) → Below n (made_as k image tree r) ↔ BelowAs (sort_of k) image r n (Below n (tree r.a)) (Below n (tree r.b))
   below-kind n K.True = Iff.rfl
@@ -165,7 +160,6 @@ module _ (image : List ℕ) (tree : ℕ → Formula) (r : Record) where
   below-kind n K.EG = Iff.rfl
   below-kind n K.AR = Iff.rfl
   below-kind n K.EU = Iff.rfl
-  below-kind n K.NoKind = Iff.rfl
 
   module _ {s : Sort} (row : sort_of (kind_of r.kind) ≡ s) where
     -- A record's formula nests as deep as its row says.

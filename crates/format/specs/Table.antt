@@ -1,6 +1,6 @@
 -- Document 01, "Formula table": the records, the trees that they give, and the conditions of the refusals 6 to 10. The table is read with
 -- the image, which says how many stages and predicates there are and of which arity.
-use Rattle.std.specs.Prelude.{ℕ, zero, suc, ◌+◌, ◌-◌, ◌*◌, ◌≤◌, ◌<◌, ◌≡◌, Bool, true, false, List, [], ◌∷◌, ◌++◌, length, get_or, eqb, ltb}
+use Rattle.std.specs.Prelude.{ℕ, zero, suc, ◌+◌, ◌-◌, ◌*◌, ◌≤◌, ◌<◌, ◌≡◌, Bool, true, false, Option, IsSome, List, [], ◌∷◌, ◌++◌, length, get_or, slice_get, eqb, ltb}
 use Rattle.model.specs.Formula.{Term, stage, variable, Atom, one, two, Formula, truth, falsity, is, is_not, and, or, AX, EX, AF, EG, AR, EU, nesting}
 use Rattle.format.specs.Bytes.{byte_at, Begins}
 use Rattle.format.specs.Image.{stages_of, predicates_of, arity_of}
@@ -28,13 +28,16 @@ record_at table e =
       t = byte_at table (11 + 6 * e);
     }
 
--- The kinds, by their numbers.
+-- The kinds, by their numbers; a number above 11 has none.
+abbrev pub kinds : List Kind
+kinds = K.True ∷ K.False ∷ K.Is ∷ K.IsNot ∷ K.And ∷ K.Or ∷ K.AX ∷ K.EX ∷ K.AF ∷ K.EG ∷ K.AR ∷ K.EU ∷ []
+
+abbrev pub kind_with : ℕ → Option Kind
+kind_with k = slice_get kinds k
+
+-- The kind that a number counts as: what is no kind counts as false.
 abbrev pub kind_of : ℕ → Kind
-kind_of k =
-    get_or
-    (K.True ∷ K.False ∷ K.Is ∷ K.IsNot ∷ K.And ∷ K.Or ∷ K.AX ∷ K.EX ∷ K.AF ∷ K.EG ∷ K.AR ∷ K.EU ∷ [])
-    k
-    K.NoKind
+kind_of k = get_or kinds k K.False
 
 -- The rows of document 01's table of kinds: the kinds of a row use the same fields.
 abbrev pub sort_of : Kind → Sort
@@ -50,7 +53,6 @@ sort_of K.AF = S.Unary
 sort_of K.EG = S.Unary
 sort_of K.AR = S.Binary
 sort_of K.EU = S.Binary
-sort_of K.NoKind = S.NoSort
 
 -- A term is 0 to n - 1, a stage, or 64 to 67, a variable.
 pub data IsTerm (n t : ℕ) : Type 0 where
@@ -104,11 +106,11 @@ RuledAs S.Atom image e r = AtomRule image r
 RuledAs S.Junction image e r = JunctionRule e r
 RuledAs S.Unary image e r = UnaryRule (stages_of image) e r
 RuledAs S.Binary image e r = BinaryRule (stages_of image) e r
-RuledAs S.NoSort image e r = ⊥
 
--- An entry's record keeps the rules of its kind.
-abbrev pub Ruled : List ℕ → ℕ → Record → Type 0
-Ruled image e r = RuledAs (sort_of (kind_of r.kind)) image e r
+-- An entry's record has a kind and keeps its rules.
+pub record Ruled (image : List ℕ) (e : ℕ) (r : Record) : Type 0 where
+  pub known : IsSome (kind_with r.kind)
+  pub keeps : RuledAs (sort_of (kind_of r.kind)) image e r
 
 -- The entries that a record has as operands.
 abbrev pub operands_as : Sort → Record → List ℕ
@@ -117,7 +119,6 @@ operands_as S.Atom r = []
 operands_as S.Junction r = r.a ∷ r.b ∷ []
 operands_as S.Unary r = r.a ∷ []
 operands_as S.Binary r = r.a ∷ r.b ∷ []
-operands_as S.NoSort r = []
 
 abbrev pub operands_in : Record → List ℕ
 operands_in r = operands_as (sort_of (kind_of r.kind)) r
@@ -157,7 +158,6 @@ made_as K.AF image tree r = AF r.x (tree r.a) (term_of r.t)
 made_as K.EG image tree r = EG r.x (tree r.a) (term_of r.t)
 made_as K.AR image tree r = AR r.x (tree r.a) r.y (tree r.b) (term_of r.t)
 made_as K.EU image tree r = EU r.x (tree r.a) r.y (tree r.b) (term_of r.t)
-made_as K.NoKind image tree r = falsity
 
 abbrev pub made : List ℕ → (ℕ → Formula) → Record → Formula
 made image tree r = made_as (kind_of r.kind) image tree r

@@ -24,7 +24,7 @@ fn noted_operands(seen: &mut [bool; 64], r: Record) -> Result<(), Refusal>
     ensures { Noted seen.old (operands_in r) seen.new result }
 {
     match record::sort_of(record::kind_of(r.kind)) {
-        Sort::Constant | Sort::Atom | Sort::NoSort => Ok(()),
+        Sort::Constant | Sort::Atom => Ok(()),
         Sort::Unary => noted(seen, r.a),
         Sort::Junction | Sort::Binary => {
             noted(seen, r.a)?;

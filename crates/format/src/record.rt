@@ -1,13 +1,13 @@
 // The records of a formula table: the kind of each, the fields that its row of kinds uses, and the rules that it keeps.
 ghost use Rattle.std.specs.Prelude.{◌≡◌};
 ghost use Rattle.model.specs.Decides.{Decides};
-ghost use Rattle.format.specs.Table.{kind_of, sort_of, record_at};
+ghost use Rattle.format.specs.Table.{kind_with, kind_of, sort_of, record_at};
 ghost use Rattle.format.specs.Table.{IsTerm, SecondTerm, ConstantRule, AtomRule, JunctionRule, UnaryRule, BinaryRule, Ruled};
 
 use crate::byte;
 
 // The kinds of formulas, in the order of their numbers.
-#[derive(Clone, Copy)]
+#[derive(Clone, Copy, PartialEq, Eq)]
 pub enum Kind {
     True,
     False,
@@ -21,18 +21,16 @@ pub enum Kind {
     EG,
     AR,
     EU,
-    NoKind,
 }
 
 // The rows of the table of kinds: the kinds of a row use the same fields.
-#[derive(Clone, Copy)]
+#[derive(Clone, Copy, PartialEq, Eq)]
 pub enum Sort {
     Constant,
     Atom,
     Junction,
     Unary,
     Binary,
-    NoSort,
 }
 
 // The record of an entry.
@@ -46,25 +44,32 @@ pub struct Record {
     pub t: u8,
 }
 
-// The kind with a number.
+// The kind with a number; none above 11.
+pub fn kind_with(number: u8) -> Option<Kind>
+    ensures { result ≡ kind_with number }
+{
+    match number {
+        0 => Some(Kind::True),
+        1 => Some(Kind::False),
+        2 => Some(Kind::Is),
+        3 => Some(Kind::IsNot),
+        4 => Some(Kind::And),
+        5 => Some(Kind::Or),
+        6 => Some(Kind::AX),
+        7 => Some(Kind::EX),
+        8 => Some(Kind::AF),
+        9 => Some(Kind::EG),
+        10 => Some(Kind::AR),
+        11 => Some(Kind::EU),
+        _ => None,
+    }
+}
+
+// The kind that a record's number counts as: what is no kind counts as false.
 pub fn kind_of(kind: u8) -> Kind
     ensures { result ≡ kind_of kind }
 {
-    match kind {
-        0 => Kind::True,
-        1 => Kind::False,
-        2 => Kind::Is,
-        3 => Kind::IsNot,
-        4 => Kind::And,
-        5 => Kind::Or,
-        6 => Kind::AX,
-        7 => Kind::EX,
-        8 => Kind::AF,
-        9 => Kind::EG,
-        10 => Kind::AR,
-        11 => Kind::EU,
-        _ => Kind::NoKind,
-    }
+    kind_with(kind).unwrap_or(Kind::False)
 }
 
 // The row that a kind stands in.
@@ -77,7 +82,6 @@ pub fn sort_of(kind: Kind) -> Sort
         Kind::And | Kind::Or => Sort::Junction,
         Kind::AX | Kind::EX | Kind::AF | Kind::EG => Sort::Unary,
         Kind::AR | Kind::EU => Sort::Binary,
-        Kind::NoKind => Sort::NoSort,
     }
 }
 
@@ -178,14 +182,15 @@ fn binary_rule(n: u8, e: u8, r: Record) -> bool
 pub(crate) fn ruled(image: &[u8], e: u8, r: Record) -> bool
     ensures { Decides result (Ruled image.now e r) }
 {
+    let Some(kind) = kind_with(r.kind) else {
+        return false;
+    };
     let n = byte(image, 5);
-    let sort = sort_of(kind_of(r.kind));
-    match sort {
+    match sort_of(kind) {
         Sort::Constant => constant_rule(r),
         Sort::Atom => atom_rule(image, r),
         Sort::Junction => junction_rule(e, r),
         Sort::Unary => unary_rule(n, e, r),
         Sort::Binary => binary_rule(n, e, r),
-        Sort::NoSort => false,
     }
 }

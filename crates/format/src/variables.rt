@@ -26,7 +26,6 @@ pub fn free(image: &[u8], table: &[u8], e: u8) -> Set
                 .without(r.x as usize)
                 .union(free_below(image, table, e, r.b).without(r.y as usize)),
         ),
-        Sort::NoSort => Set::empty(),
     }
 }
 

@@ -26,7 +26,6 @@ module _ (image : List ℕ) (tree : ℕ → Formula) (r : Record) where
   sided-kind (suc n) K.EG = refl
   sided-kind (suc n) K.AR = refl
   sided-kind (suc n) K.EU = refl
-  sided-kind (suc n) K.NoKind = refl
 
 -- The formula of an entry on a side, from the entry's record.
 pub sided-entry : (image table : List ℕ) (side e : ℕ) {r : Record} → r ≡ record_at table e
@@ -50,20 +49,18 @@ start-side (suc n) K.AF s = refl
 start-side (suc n) K.EG s = refl
 start-side (suc n) K.AR s = refl
 start-side (suc n) K.EU s = refl
-start-side (suc n) K.NoKind s = refl
 
--- A kind is known by its number, except that what is no kind counts as false.
-pub of_number : (k : Kind) → (number_of k ≡ 1 → ⊥) → k ≡ kind_of (number_of k)
-of_number K.True f = refl
-of_number K.False f = absurd (f refl)
-of_number K.Is f = refl
-of_number K.IsNot f = refl
-of_number K.And f = refl
-of_number K.Or f = refl
-of_number K.AX f = refl
-of_number K.EX f = refl
-of_number K.AF f = refl
-of_number K.EG f = refl
-of_number K.AR f = refl
-of_number K.EU f = refl
-of_number K.NoKind f = absurd (f refl)
+-- A kind is known by its number.
+pub of_number : (k : Kind) → k ≡ kind_of (number_of k)
+of_number K.True = refl
+of_number K.False = refl
+of_number K.Is = refl
+of_number K.IsNot = refl
+of_number K.And = refl
+of_number K.Or = refl
+of_number K.AX = refl
+of_number K.EX = refl
+of_number K.AF = refl
+of_number K.EG = refl
+of_number K.AR = refl
+of_number K.EU = refl

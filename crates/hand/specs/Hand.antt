@@ -22,7 +22,6 @@ start_as S.Atom s = 0
 start_as S.Junction s = 0
 start_as S.Unary s = s
 start_as S.Binary s = s
-start_as S.NoSort s = 0
 
 abbrev pub start_in : Record → Env → ℕ
 start_in r env = start_as (sort_of (kind_of r.kind)) (value env (term_of r.t))

@@ -9,7 +9,7 @@ abbrev pub sided : ℕ → Formula → Formula
 sided zero f = f
 sided (suc k) f = dual f
 
--- The kind of the dual. What is no kind counts as false, in a table as here.
+-- The kind of the dual.
 abbrev pub dual_kind : Kind → Kind
 dual_kind K.True = K.False
 dual_kind K.False = K.True
@@ -23,7 +23,6 @@ dual_kind K.AF = K.EG
 dual_kind K.EG = K.AF
 dual_kind K.AR = K.EU
 dual_kind K.EU = K.AR
-dual_kind K.NoKind = K.True
 
 -- A kind on a side.
 abbrev pub kind_on : ℕ → Kind → Kind
@@ -44,4 +43,3 @@ number_of K.AF = 8
 number_of K.EG = 9
 number_of K.AR = 10
 number_of K.EU = 11
-number_of K.NoKind = 1

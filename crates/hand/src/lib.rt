@@ -15,7 +15,7 @@ use env::Env;
 use format::record::{Kind, Record};
 use format::{byte, image, record};
 
-// The kind of the dual. What is no kind counts as false.
+// The kind of the dual.
 fn dual_of(kind: Kind) -> Kind
     ensures { result ≡ dual_kind kind }
 {
@@ -32,7 +32,6 @@ fn dual_of(kind: Kind) -> Kind
         Kind::EG => Kind::AF,
         Kind::AR => Kind::EU,
         Kind::EU => Kind::AR,
-        Kind::NoKind => Kind::True,
     }
 }
 
@@ -40,21 +39,7 @@ fn dual_of(kind: Kind) -> Kind
 fn number_of(kind: Kind) -> u8
     ensures { result ≡ number_of kind }
 {
-    match kind {
-        Kind::True => 0,
-        Kind::False => 1,
-        Kind::Is => 2,
-        Kind::IsNot => 3,
-        Kind::And => 4,
-        Kind::Or => 5,
-        Kind::AX => 6,
-        Kind::EX => 7,
-        Kind::AF => 8,
-        Kind::EG => 9,
-        Kind::AR => 10,
-        Kind::EU => 11,
-        Kind::NoKind => 1,
-    }
+    kind as u8
 }
 
 // The kind in hand, from the kind that a record has: on side 0 its own, on side 1 the dual's.

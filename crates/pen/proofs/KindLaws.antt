@@ -28,7 +28,7 @@ use Rattle.hand.specs.Setup.{entry_at, entry_of}
 use Rattle.hand.specs.Side.{sided, kind_on, number_of}
 use Rattle.hand.specs.declared.env.Env.{Env as Slots}
 use Rattle.hand.specs.declared.setup.Entry.{Entry}
-use Rattle.hand.proofs.SideLaws.{sided-entry}
+use Rattle.hand.proofs.SideLaws.{sided-entry, of_number}
 use Rattle.written.specs.Choice.{lowest_next}
 use Rattle.written.specs.Written.{through, written}
 use Rattle.guide.specs.Sides.{truth_on}
@@ -57,22 +57,6 @@ fields-of image side r p e = record {
   t = ap (λ (q : Entry). q.t) e;
 }
 
--- A kind is known by its number, except that what is no kind has the number of false.
-number-back : (k j : Kind) → kind_of (number_of k) ≡ j → (k ≡ j) ⊎ (k ≡ K.NoKind)
-number-back K.True j e = inl e
-number-back K.False j e = inl e
-number-back K.Is j e = inl e
-number-back K.IsNot j e = inl e
-number-back K.And j e = inl e
-number-back K.Or j e = inl e
-number-back K.AX j e = inl e
-number-back K.EX j e = inl e
-number-back K.AF j e = inl e
-number-back K.EG j e = inl e
-number-back K.AR j e = inl e
-number-back K.EU j e = inl e
-number-back K.NoKind j e = inr refl
-
 -- The kinds of a pair of duals keep the same rules.
 ruled-side : (side : ℕ) (k : Kind) (image : List ℕ) (e : ℕ) (r : Record) → RuledAs (sort_of k) image e r → RuledAs (sort_of (kind_on side k)) image e r
 ruled-side zero k image e r rule = rule
@@ -88,7 +72,6 @@ ruled-side (suc n) K.AF image e r rule = rule
 ruled-side (suc n) K.EG image e r rule = rule
 ruled-side (suc n) K.AR image e r rule = rule
 ruled-side (suc n) K.EU image e r rule = rule
-ruled-side (suc n) K.NoKind image e r rule = absurd rule
 
 -- An entry's formula on the side; and an operand's, as the entry has it.
 abbrev on : List ℕ → List ℕ → ℕ → ℕ → Formula
@@ -116,15 +99,13 @@ module _ (run : Run) where
     pub rule-of : {k : Kind} → InHand image table side e env k → RuledAs (sort_of k) image e (record_at table e)
     rule-of h =
         subst (λ (q : Kind). RuledAs (sort_of q) image e (record_at table e)) h.kind
-        (ruled-side side (kind_of (record_at table e).kind) image e (record_at table e) (run-ruled run e h.holding.entry))
+        (ruled-side side (kind_of (record_at table e).kind) image e (record_at table e) (run-ruled run e h.holding.entry).keeps)
 
     -- The kind that the number gives is the kind in hand.
     pub kind-told : {p : Entry} {k j : Kind} → Holding image table side e env → Fields p side (record_at table e) → k ≡ kind_of p.kind → k ≡ j
         → InHand image table side e env j
-    kind-told {p} {k} {j} h f k-is told =
-        ⊎_elim (λ q. record { holding = h; kind = q })
-        (λ q. absurd (rule-of {k = K.NoKind} (record { holding = h; kind = q })))
-        (number-back (kind_on side (kind_of (record_at table e).kind)) j (ap kind_of (sym f.kind) ∙ sym k-is ∙ told))
+    kind-told h f k-is told =
+        record { holding = h; kind = of_number (kind_on side (kind_of (record_at table e).kind)) ∙ ap kind_of (sym f.kind) ∙ sym k-is ∙ told }
 
     -- So it is in an arm of the code, where the entry was read and its number gave the kind.
     pub in_arm : {p : Entry} {k j : Kind} → Holding image table side e env → p ≡ entry_at run.entries.now e → k ≡ kind_of p.kind → k ≡ j
@@ -186,9 +167,6 @@ module _ (run : Run) where
 
     pub false-never : InHand image table side e env K.False → ⊥
     false-never h = holds_as {f = falsity} h (made_of h)
-
-    pub no_kind : InHand image table side e env K.NoKind → ⊥
-    no_kind h = rule-of h
 
     -- And: both operands hold, and their steps follow.
     module _ (h : InHand image table side e env K.And) where

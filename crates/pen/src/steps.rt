@@ -24,7 +24,7 @@ use rules::Rule;
 use sets::Set;
 
 impl Run<'_> {
-    // An entry's formula, from the start of its walk. False holds nowhere, and a table has no other kind.
+    // An entry's formula, from the start of its walk. False holds nowhere.
     #[cycle(af_af_from_af_step_ar_ar_from_ax_eg_eu_ex_formula_or)]
     pub(crate) fn formula(&self, e: u8, env: Env, out: &mut [u8], at: usize) -> usize
         requires { Holding self.now.setup.image.now self.now.setup.table.now self.now.side e env }
@@ -50,7 +50,7 @@ impl Run<'_> {
             Kind::EG => self.eg(e, env, out, at),
             Kind::AR => self.ar_from(e, env, out, at),
             Kind::EU => self.eu(e, env, out, at),
-            Kind::False | Kind::NoKind => at,
+            Kind::False => at,
         }
     }
 

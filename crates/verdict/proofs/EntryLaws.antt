@@ -32,7 +32,7 @@ use Rattle.verdict.specs.Modality.{at_stage, Inner}
 -- The rule of an entry's row.
 pub rule-of : (image : List ℕ) {table : List ℕ} {e : ℕ} {r : Record} {s : Sort} → Row table e r s → Ruled image e (record_at table e) → RuledAs s image e r
 rule-of image {e = e} {r = r} row rule =
-    subst (λ (s : Sort). RuledAs s image e r) row.sort (subst (Ruled image e) (sym row.entry) rule)
+    subst (λ (s : Sort). RuledAs s image e r) row.sort (subst (Ruled image e) (sym row.entry) rule).keeps
 
 -- A record that keeps its rules is made of lower entries alone.
 made-same : (k : Kind) (image : List ℕ) (e : ℕ) (r : Record) (tree tree' : ℕ → Formula) → RuledAs (sort_of k) image e r
@@ -51,7 +51,6 @@ made-same K.AR image e r tree tree' rule same =
     ap₂ (λ (f g : Formula). AR r.x f r.y g (term_of r.t)) (same r.a rule.a) (same r.b rule.b)
 made-same K.EU image e r tree tree' rule same =
     ap₂ (λ (f g : Formula). EU r.x f r.y g (term_of r.t)) (same r.a rule.a) (same r.b rule.b)
-made-same K.NoKind image e r tree tree' rule same = refl
 
 -- So an entry's tree is made of the trees of its operands.
 pub tree-ruled : (image : List ℕ) {table : List ℕ} {e : ℕ} {r : Record} {s : Sort} → Row table e r s → Ruled image e (record_at table e)
@@ -59,13 +58,13 @@ pub tree-ruled : (image : List ℕ) {table : List ℕ} {e : ℕ} {r : Record} {s
 tree-ruled image {table} {e} {r} row rule =
     tree-of-row image row
     ∙ made-same (kind_of r.kind) image e r (λ i. nth (trees image table e) i) (λ i. tree_of image table i)
-    (subst (Ruled image e) (sym row.entry) rule) (λ i h. tree-at image table e i h)
+    (subst (Ruled image e) (sym row.entry) rule).keeps (λ i h. tree-at image table e i h)
 
 -- ---- what a row's kinds say of their operands
 
 -- A row whose kinds are no modalities.
 abbrev pub Plain : Sort → Type 0
-Plain s = (s ≡ S.Constant) ⊎ ((s ≡ S.Atom) ⊎ ((s ≡ S.Junction) ⊎ (s ≡ S.NoSort)))
+Plain s = (s ≡ S.Constant) ⊎ ((s ≡ S.Atom) ⊎ (s ≡ S.Junction))
 
 -- When x is free in an operand of a modality: A and B say when it is free in the operands.
 abbrev pub InnerAs : Sort → Record → ℕ → Type 0 → Type 0 → Type 0
@@ -74,7 +73,6 @@ InnerAs S.Atom r v A B = ⊥
 InnerAs S.Junction r v A B = ⊥
 InnerAs S.Unary r v A B = Under v r.x A
 InnerAs S.Binary r v A B = Under v r.x A ⊎ Under v r.y B
-InnerAs S.NoSort r v A B = ⊥
 
 -- The stages from which a modality holds: a and b say where the operands hold.
 abbrev pub modal_as : Sort → Kind → Graph → Stages → Stages → Stages
@@ -83,7 +81,6 @@ modal_as S.Atom k G a b = λ s. false
 modal_as S.Junction k G a b = λ s. false
 modal_as S.Unary k G a b = modal k G a a
 modal_as S.Binary k G a b = modal k G a b
-modal_as S.NoSort k G a b = λ s. false
 
 -- When a formula holds: whether its kind is the first of its row, its atom, its operands, and whether a modality holds from the stage of its term.
 abbrev pub test_as : Sort → Bool → Bool → Bool → Bool → Bool → Bool
@@ -92,7 +89,6 @@ test_as S.Atom first q a b from = literal first q
 test_as S.Junction first q a b from = joined first a b
 test_as S.Unary first q a b from = from
 test_as S.Binary first q a b from = from
-test_as S.NoSort first q a b from = false
 
 module _ (image : List ℕ) (G : Graph) (tree : ℕ → Formula) (r : Record) (c : Env) where
   -- Each kind is as its row says.
@@ -111,7 +107,6 @@ module _ (image : List ℕ) (G : Graph) (tree : ℕ → Formula) (r : Record) (c
   test-kind K.EG = refl
   test-kind K.AR = refl
   test-kind K.EU = refl
-  test-kind K.NoKind = refl
 
   modal-kind : (k : Kind) (s : ℕ) → test G (at_stage s (made_as k image tree r)) c
       ≡ modal_as (sort_of k) k G (λ u. test G (tree r.a) (bind c r.x u)) (λ u. test G (tree r.b) (bind c r.y u)) s
@@ -127,7 +122,6 @@ module _ (image : List ℕ) (G : Graph) (tree : ℕ → Formula) (r : Record) (c
   modal-kind K.EG s = refl
   modal-kind K.AR s = refl
   modal-kind K.EU s = refl
-  modal-kind K.NoKind s = refl
 
 inner-kind : (image : List ℕ) (tree : ℕ → Formula) (r : Record) (v : ℕ) (k : Kind)
     → Inner v (made_as k image tree r) ↔ InnerAs (sort_of k) r v (Free v (tree r.a)) (Free v (tree r.b))
@@ -143,7 +137,6 @@ inner-kind image tree r v K.AF = Iff.rfl
 inner-kind image tree r v K.EG = Iff.rfl
 inner-kind image tree r v K.AR = Iff.rfl
 inner-kind image tree r v K.EU = Iff.rfl
-inner-kind image tree r v K.NoKind = Iff.rfl
 
 -- ---- entries
 

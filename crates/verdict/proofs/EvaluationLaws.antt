@@ -57,7 +57,6 @@ term-ruled S.Atom image e r some rule = rule.first
 term-ruled S.Junction image e r some rule = a_stage (omega (arith, rule.t))
 term-ruled S.Unary image e r some rule = rule.t
 term-ruled S.Binary image e r some rule = rule.t
-term-ruled S.NoSort image e r some rule = absurd rule
 
 module _ (setup : Setup) {e : ℕ} {env : Env} (ready : Ready setup.table.now setup.stages e env) where
   abbrev image : List ℕ
@@ -85,7 +84,7 @@ module _ (setup : Setup) {e : ℕ} {env : Env} (ready : Ready setup.table.now se
       let same : stages_of image ≡ n = setup.row.stages in
       term-stands setup.row.room d
       (subst (λ (k : ℕ). IsTerm k (record_at table e).t) same
-      (term-ruled (sort_of (kind_of (record_at table e).kind)) image e (record_at table e) (omega (arith, d 0)) ready-rule))
+      (term-ruled (sort_of (kind_of (record_at table e).kind)) image e (record_at table e) (omega (arith, d 0)) ready-rule.keeps))
 
   -- An operand is a lower entry; and the variable that a modality binds in it is one of the four.
   abbrev pub Lower : ℕ → Type 0
@@ -123,9 +122,6 @@ module _ (setup : Setup) {e : ℕ} {env : Env} (ready : Ready setup.table.now se
         collects-as
         (λ s h. let b = bind (env_of env) x s in
         ap (λ (t : Bool). literal t (atom (graph_of image) b (atom_of image r))) f ∙ sym (test-row image row ready-rule (graph_of image) b)) c
-
-    pub none-arm : Row table e r S.NoSort → out ≡ 0 → Collects n (held_at image table e env x) out
-    none-arm row z = collects-as (λ s h. sym (test-row image row ready-rule (graph_of image) (bind (env_of env) x s))) (collects-none z)
 
   -- Both operands, for "and", or either, for "or".
   joined-collects : (first : Bool) {p q : Stages} (a b out : ℕ) → Collects n p a → Collects n q b → out ≡ joined_number first a b

@@ -59,4 +59,3 @@ modal-agrees G K.AF p q = af-agrees G p
 modal-agrees G K.EG p q = eg-agrees G p
 modal-agrees G K.AR p q = ar-agrees G q p
 modal-agrees G K.EU p q = eu-agrees G q p
-modal-agrees G K.NoKind p q = λ s h. refl

@@ -21,7 +21,6 @@ is_first K.AF = true
 is_first K.EG = false
 is_first K.AR = true
 is_first K.EU = false
-is_first K.NoKind = false
 
 -- P or "not P", where P is as a says.
 abbrev pub literal : Bool → Bool → Bool
@@ -60,7 +59,6 @@ modal K.AF G a b = af G a
 modal K.EG G a b = eg G a
 modal K.AR G a b = ar G a b
 modal K.EU G a b = eu G a b
-modal K.NoKind G a b = λ s. false
 
 -- The same of sets that are numbers.
 abbrev pub modal_on : Kind → ℕ → ℕ → Graph → Stages

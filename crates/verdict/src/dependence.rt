@@ -27,6 +27,6 @@ pub(crate) fn depends(image: &[u8], table: &[u8], e: u8, x: u8) -> bool
         Sort::Binary => {
             free_under(image, table, r.a, r.x, x) || free_under(image, table, r.b, r.y, x)
         }
-        Sort::Constant | Sort::Atom | Sort::Junction | Sort::NoSort => false,
+        Sort::Constant | Sort::Atom | Sort::Junction => false,
     }
 }

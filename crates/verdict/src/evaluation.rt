@@ -34,7 +34,6 @@ impl Setup<'_> {
                 }
             }
             Sort::Unary | Sort::Binary => self.where_modal(e, env, x),
-            Sort::NoSort => Set::empty(),
         }
     }
 
@@ -88,7 +87,7 @@ impl Setup<'_> {
                 let b = self.where_holds(r.b, env, r.y);
                 self.modal_of(kind, a, b)
             }
-            Sort::Constant | Sort::Atom | Sort::Junction | Sort::NoSort => Set::empty(),
+            Sort::Constant | Sort::Atom | Sort::Junction => Set::empty(),
         }
     }
 }

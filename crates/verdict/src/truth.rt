@@ -26,7 +26,6 @@ impl Setup<'_> {
                 if a == first { self.holds(r.b, env) } else { a }
             }
             Sort::Unary | Sort::Binary => self.holds_from(e, env),
-            Sort::NoSort => false,
         }
     }
 

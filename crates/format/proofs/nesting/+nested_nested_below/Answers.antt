@@ -11,8 +11,7 @@ pub nested-returns-in-Constant : goal.nested-returns-in-Constant
 nested-returns-in-Constant t c =
     elim c.in-Constant.is [
       | inl e ↦ nested-row (row c.entry-r.ensures c.kind_of.ensures c.sort_of-sort.ensures e) (λ image. refl) (omega arith)
-      | inr (inl e) ↦ nested-row (row c.entry-r.ensures c.kind_of.ensures c.sort_of-sort.ensures e) (λ image. refl) (omega arith)
-      | inr (inr e) ↦ nested-row (row c.entry-r.ensures c.kind_of.ensures c.sort_of-sort.ensures e) (λ image. refl) (omega arith)
+      | inr e ↦ nested-row (row c.entry-r.ensures c.kind_of.ensures c.sort_of-sort.ensures e) (λ image. refl) (omega arith)
     ]
 
 pub nested-returns-in-Junction : goal.nested-returns-in-Junction

@@ -1,22 +1,13 @@
--- `format::record::kind_of` meets its contract: each arm's number is its kind's, and a number that no arm has is above 11.
+-- `format::record::kind_of` meets its contract: the kind with the number, or false.
 -- Assumes nothing.
-use Prim.Native.Nat.{zero-le}
-use Rattle.format.proofs.RecordLaws.{no_kind, past-arm}
+use mathlib.Core.Path.{ap, ◌∙◌}
+use Rattle.std.specs.Prelude.{Option, unwrap_or}
+use Rattle.std.proofs.lemmas.Option.{unwrap_or-slice_get}
+use Rattle.format.specs.Table.{kinds}
+use Rattle.format.specs.declared.record.Kind.{Kind}
+use Rattle.format.specs.declared.record.Kind.TheVariants as K
 use Rattle.format.proofs.record.kind_of.Goals as goal
 
-pub returns-in_default : goal.returns-in_default
-returns-in_default c =
-    let rest = c.in_default.in_default-own.rest in
-    let one = past-arm {k = c.args.kind} zero-le rest.0.0.0.0.0.0.0.0.0.0.0.1 in
-    let two = past-arm one rest.0.0.0.0.0.0.0.0.0.0.1 in
-    let three = past-arm two rest.0.0.0.0.0.0.0.0.0.1 in
-    let four = past-arm three rest.0.0.0.0.0.0.0.0.1 in
-    let five = past-arm four rest.0.0.0.0.0.0.0.1 in
-    let six = past-arm five rest.0.0.0.0.0.0.1 in
-    let seven = past-arm six rest.0.0.0.0.0.1 in
-    let eight = past-arm seven rest.0.0.0.0.1 in
-    let nine = past-arm eight rest.0.0.0.1 in
-    let ten = past-arm nine rest.0.0.1 in
-    let eleven = past-arm ten rest.0.1 in
-    let twelve = past-arm eleven rest.1 in
-    no_kind _ twelve
+pub returns : goal.returns
+returns c =
+    c.unwrap_or.ensures ∙ ap (λ (o : Option Kind). unwrap_or o K.False) c.kind_with.ensures ∙ unwrap_or-slice_get kinds c.args.kind K.False

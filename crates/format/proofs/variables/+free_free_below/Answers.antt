@@ -30,10 +30,6 @@ free-returns-in-Binary t c =
     (members-without _ _ c.without-in-Binary.ensures c.free_below-in-Binary.ensures)
     (members-without _ _ c.without-in-Binary-2.ensures c.free_below-in-Binary-2.ensures)))
 
-pub free-returns-in-NoSort : goal.free-returns-in-NoSort
-free-returns-in-NoSort t c = free-row _ _ (row c.entry-r.ensures c.kind_of.ensures c.sort_of-sort.ensures c.in-NoSort.is)
-    (members-none c.empty-in-NoSort.ensures)
-
 pub free_below-returns-then-o-e : goal.free_below-returns-then-o-e
 free_below-returns-then-o-e t c = free-lower _ _ _ _ _ c.if-o-e.true c.free.ensures
 

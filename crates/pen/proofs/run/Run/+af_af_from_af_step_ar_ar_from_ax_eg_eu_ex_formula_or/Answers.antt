@@ -14,7 +14,7 @@ use Rattle.pen.proofs.EachLaws.{each_start, each-stage, each-edge, each-end, eac
 use Rattle.logic.specs.Test.{af as af_test}
 use Rattle.pen.specs.Steps.{af_steps, InHand}
 use Rattle.pen.proofs.KindLaws.{fields, rule-of, af-from as af-holds, af-start, ar-from as ar-from-start, eg-from, eu-from, in_arm, true-steps, is-steps}
-use Rattle.pen.proofs.KindLaws.{is-not-steps, false-never, no_kind, and_both, and-steps, or_right, left-steps, right-steps, ax-each, ax-steps, ex-some}
+use Rattle.pen.proofs.KindLaws.{is-not-steps, false-never, and_both, and-steps, or_right, left-steps, right-steps, ax-each, ax-steps, ex-some}
 use Rattle.pen.proofs.KindLaws.{ex-steps}
 use Rattle.pen.proofs.WriterLaws.{start_is, start-below, ready_of, under, operand-wrote, stop-has, stop-lacks, next-all, walk-has, walk-lacks}
 use Rattle.pen.proofs.WriterLaws.{going_start, going_more, going_end, going_done, same-env, plain-wrote}
@@ -570,8 +570,7 @@ formula-returns-in-True t c =
 pub formula-returns-in-False : goal.formula-returns-in-False
 formula-returns-in-False t c =
     let run = c.args.self.now in
-    absurd (⊎_elim (λ e. false-never run (in_arm run c.requires refl c.kind_of.ensures e)) (λ e. no_kind run (in_arm run c.requires refl c.kind_of.ensures e))
-    c.in-False.is)
+    absurd (false-never run (in_arm run c.requires refl c.kind_of.ensures c.in-False.is))
 
 pub formula-returns-in-Is : goal.formula-returns-in-Is
 formula-returns-in-Is t c =

@@ -4,7 +4,7 @@ use native.Mathlib.Omega.{arith}
 use Rattle.format.proofs.TreeLaws.{row}
 use Rattle.verdict.specs.Kinds.{is_first}
 use Rattle.verdict.proofs.EvaluationLaws.{junction-first, junction-second}
-use Rattle.verdict.proofs.TruthLaws.{constant-truth, literal-truth, settled-truth, second-truth, modal-truth, none-truth}
+use Rattle.verdict.proofs.TruthLaws.{constant-truth, literal-truth, settled-truth, second-truth, modal-truth}
 use Rattle.verdict.proofs.setup.Setup.+holds.Goals as goal
 
 pub holds-a-requires : goal.holds-a-requires
@@ -43,6 +43,3 @@ pub returns-in-Unary : goal.returns-in-Unary
 returns-in-Unary t c =
     modal-truth c.args.self.now c.requires (row c.entry-r.ensures c.kind_of-kind.ensures c.sort_of.ensures refl) c.in-Unary.is c.holds_from.ensures
 
-pub returns-in-NoSort : goal.returns-in-NoSort
-returns-in-NoSort t c =
-    none-truth c.args.self.now c.requires (row c.entry-r.ensures c.kind_of-kind.ensures c.sort_of.ensures c.in-NoSort.is)

@@ -8,7 +8,7 @@ use Rattle.sets.specs.Number.{number}
 use Rattle.format.proofs.TreeLaws.{row}
 use Rattle.verdict.specs.Kinds.{is_first}
 use Rattle.verdict.proofs.CollectLaws.{collects-take, collects-skip}
-use Rattle.verdict.proofs.EvaluationLaws.{constant-arm, literal-arm, junction-arm, settled-arm, modal-arm, none-arm, unary-set, binary-set, no-set}
+use Rattle.verdict.proofs.EvaluationLaws.{constant-arm, literal-arm, junction-arm, settled-arm, modal-arm, unary-set, binary-set, no-set}
 use Rattle.verdict.proofs.EvaluationLaws.{each_turn, once-arm, ready-rule, unary-operand, binary-first, binary-second, junction-first}
 use Rattle.verdict.proofs.EvaluationLaws.{junction-second}
 use Rattle.verdict.proofs.setup.Setup.+modal_set_where_each_where_holds_where_modal.Goals as goal
@@ -93,10 +93,6 @@ where_holds-returns-else-settled t c =
 pub where_holds-returns-in-Unary : goal.where_holds-returns-in-Unary
 where_holds-returns-in-Unary t c =
     modal-arm c.args.self.now c.requires.0 _ (row c.entry-r.ensures c.kind_of-kind.ensures c.sort_of.ensures refl) c.in-Unary.is c.where_modal.ensures
-
-pub where_holds-returns-in-NoSort : goal.where_holds-returns-in-NoSort
-where_holds-returns-in-NoSort t c =
-    none-arm c.args.self.now c.requires.0 _ (row c.entry-r.ensures c.kind_of-kind.ensures c.sort_of.ensures c.in-NoSort.is) c.empty.ensures
 
 pub where_modal-depends-requires : goal.where_modal-depends-requires
 where_modal-depends-requires t c = (ready-rule c.args.self.now c.requires.0, c.requires.1)
