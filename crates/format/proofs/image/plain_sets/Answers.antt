@@ -4,16 +4,12 @@ use Prim.Native.Nat.{ℕ}
 use mathlib.Core.Path.{subst}
 use mathlib.Core.Logic.{inl, inr}
 use native.Mathlib.Omega.{arith}
-use borrow.Author.Count.{below_more, below_none}
+use borrow.Author.Count.{below_more}
 use Rattle.sets.specs.Member.{Empty}
 use Rattle.model.specs.Decides.{decided, refuted}
 use Rattle.format.proofs.ImageLaws.{has_all, some-high, none-high}
-use borrow.Author.Rules.{rules}
 use Rattle.format.proofs.image.plain_sets.Goals as goal
 use Rattle.format.proofs.image.plain_sets.Goals.{then-not-subset-via-then-not-subset, then-not-subset-via-else-not-subset+then-is_empty}
-
-pub loop-i-init : goal.loop-i-init
-loop-i-init c = (search rules, below_none _, below_none _)
 
 pub returns-then-not-subset : goal.returns-then-not-subset
 returns-then-not-subset c =

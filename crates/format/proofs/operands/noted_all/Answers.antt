@@ -1,23 +1,15 @@
 -- `format::operands::noted_all` meets its contract: the loop has noted the operands of the first e entries.
 -- Assumes nothing.
-use Prim.Native.Nat.{ℕ}
-use mathlib.Core.Path.{subst, subst⁻¹}
 use native.Mathlib.Omega.{arith}
 use borrow.Author.Rules.{rules}
 use Rattle.std.proofs.lemmas.Result.{err_from_is_err_and}
-use Rattle.format.specs.Table.{operands, operands_in}
-use Rattle.format.specs.Reading.{OperandsSmall, Flagged}
-use Rattle.format.specs.declared.record.Record.{Record}
+use Rattle.format.specs.Table.{operands}
 use Rattle.format.proofs.OperandLaws.{flagged-none, flagged-entry, twice-entry}
 use Rattle.format.proofs.operands.noted_all.Goals as goal
 
 pub loop-e-init : goal.loop-e-init
 unfolding operands
 loop-e-init c = (search rules, flagged-none)
-
-pub noted_operands-requires : goal.noted_operands-requires
-noted_operands-requires c =
-    subst⁻¹ (λ (r : Record). OperandsSmall (operands_in r)) c.entry.ensures (c.requires c.loop-e.e (omega (arith, c.byte-m.ensures)))
 
 pub returns-in_err-noted_operands : goal.returns-in_err-noted_operands
 returns-in_err-noted_operands c =
@@ -27,6 +19,3 @@ returns-in_err-noted_operands c =
 
 pub loop-e-preserved : goal.loop-e-preserved
 loop-e-preserved c = (omega arith, flagged-entry _ _ c.entry.ensures c.in_ok-noted_operands.ensures c.loop-e.invariant.1)
-
-pub returns : goal.returns
-returns c = subst (λ (k : ℕ). Flagged (operands c.args.table.now k) c.loop-e.seen) (omega (arith, c.byte-m.ensures)) c.loop-e.invariant.1

@@ -4,11 +4,11 @@ use mathlib.Core.Path.{refl}
 use mathlib.Core.Logic.{inl, inr}
 use native.Mathlib.Omega.{arith}
 use Rattle.std.proofs.lemmas.Result.{err_from_is_err_and}
-use Rattle.model.specs.Decides.{decided, refuted}
+use Rattle.model.specs.Decides.{decided}
 use Rattle.format.specs.Question.{setup_conditions, goal_conditions}
 use Rattle.format.specs.declared.Refusal.TheVariants as R
-use Rattle.format.proofs.RefusalLaws.{given-first, given-later, clear_both}
-use Rattle.format.proofs.ReadingLaws.{shape-entries, shape-stages, goal-byte, start-byte}
+use Rattle.format.proofs.RefusalLaws.{given-first, given-later}
+use Rattle.format.proofs.ReadingLaws.{shape-entries, shape-stages}
 use Rattle.format.proofs.question.read.Goals as goal
 
 pub returns-in_err-shape : goal.returns-in_err-shape
@@ -35,9 +35,6 @@ returns-then-inner-start c =
       inl (refl, omega (arith, c.if-inner-start.true, shape-stages c.in_ok-shape.ensures)),
     ))
 
-pub overflow_cast-g : goal.overflow_cast-g
-overflow_cast-g c = omega (arith, goal-byte c.in_ok-shape.ensures c.if-shape-goal.false)
-
 pub returns-then-other_free : goal.returns-then-other_free
 returns-then-other_free c =
     let image = c.args.image.now in
@@ -50,22 +47,3 @@ returns-then-other_free c =
         inl (refl, decided _ c.other_free.ensures c.if-other_free.true),
       ),
     ))
-
-pub overflow_cast-result : goal.overflow_cast-result
-overflow_cast-result c = omega (arith, start-byte c.in_ok-shape.ensures c.if-inner-start.false)
-
-pub returns : goal.returns
-returns c =
-    let image = c.args.image.now in
-    let table = c.args.table.now in
-    record {
-      clear =
-          clear_both (setup_conditions image table) (goal_conditions image table c.args.goal c.args.start) c.in_ok-shape.ensures.clear (
-            λ h. omega (arith, h, c.if-shape-goal.false, shape-entries c.in_ok-shape.ensures),
-            (
-              λ h. omega (arith, h, c.if-inner-start.false, shape-stages c.in_ok-shape.ensures),
-              (refuted _ c.other_free.ensures c.if-other_free.false, tt),
-            ),
-          );
-      is = λ i. record { shape = c.in_ok-shape.ensures.is i; goal = c.args.goal; start = c.args.start };
-    }

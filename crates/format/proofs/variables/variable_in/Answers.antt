@@ -1,10 +1,7 @@
 -- `format::variables::variable_in` meets its contract: a stage names no variable, and a variable itself.
 -- Assumes nothing.
-use Rattle.format.proofs.VariableLaws.{named-stage, named-variable}
+use Rattle.format.proofs.VariableLaws.{named-variable}
 use Rattle.format.proofs.variables.variable_in.Goals as goal
-
-pub returns-then-t-lt64 : goal.returns-then-t-lt64
-returns-then-t-lt64 c = named-stage c.if-t-lt64.true c.empty.ensures
 
 pub returns-else-t-lt64 : goal.returns-else-t-lt64
 returns-else-t-lt64 c = named-variable c.if-t-lt64.false c.only.ensures
