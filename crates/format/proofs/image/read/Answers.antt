@@ -1,4 +1,4 @@
--- `format::image::read` meets its contract: at each `return` the tests before it say that no earlier condition holds.
+-- `format::image::read` meets its contract: where not all successor sets are plain and no bit is too high, a stage has none.
 -- Assumes nothing.
 use mathlib.Core.Path.{refl}
 use mathlib.Core.Logic.{inl, inr}

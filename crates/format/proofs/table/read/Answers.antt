@@ -1,4 +1,4 @@
--- `format::table::read` meets its contract: at each `return` the tests before it say that no earlier condition holds.
+-- `format::table::read` meets its contract: the image's refusals come first, and the flags are those of the table.
 -- Assumes nothing.
 use Rattle.std.proofs.lemmas.Result.{err_from_is_err_and}
 use Rattle.model.specs.Decides.{decided, refuted}
