@@ -13,8 +13,7 @@ fn nested(table: &[u8], e: u8) -> usize
     ensures { Nested table.now e result }
 {
     let r = record::entry(table, e as usize);
-    let sort = record::sort_of(record::kind_of(r.kind));
-    match sort {
+    match record::sort_of(record::kind_of(r.kind)) {
         Sort::Constant | Sort::Atom => 0,
         Sort::Junction => nested_below(table, e, r.a).max(nested_below(table, e, r.b)),
         Sort::Unary => 1 + nested_below(table, e, r.a),

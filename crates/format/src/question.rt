@@ -19,11 +19,10 @@ pub fn read(image: &[u8], table: &[u8], goal: u64, start: u64) -> Result<Questio
     ensures { QuestionAnswer image.now table.now goal start result }
 {
     let shape = table::read(image, table)?;
-    let inner = shape.image;
     if shape.entries as u64 <= goal {
         return Err(Refusal::NoSuchGoal);
     }
-    if inner.stages as u64 <= start {
+    if shape.image.stages as u64 <= start {
         return Err(Refusal::NoSuchStart);
     }
     let g = goal as u8;

@@ -89,18 +89,17 @@ pub fn sort_of(kind: Kind) -> Sort
 pub fn entry(table: &[u8], e: usize) -> Record
     ensures { result ≡ record_at table.now e }
 {
-    if e < 64 {
-        let at = 6 * e;
-        if 11 + at < table.len() {
-            return Record {
-                kind: table[6 + at],
-                a: table[7 + at],
-                b: table[8 + at],
-                x: table[9 + at],
-                y: table[10 + at],
-                t: table[11 + at],
-            };
-        }
+    if e < 64
+        && let Some([kind, a, b, x, y, t]) = table.get(6 + 6 * e..12 + 6 * e)
+    {
+        return Record {
+            kind: *kind,
+            a: *a,
+            b: *b,
+            x: *x,
+            y: *y,
+            t: *t,
+        };
     }
     entry_byte_by_byte(table, e)
 }

@@ -13,8 +13,7 @@ pub fn free(image: &[u8], table: &[u8], e: u8) -> Set
     ensures { Variables (tree_of image.now table.now e) (number result) }
 {
     let r = record::entry(table, e as usize);
-    let sort = record::sort_of(record::kind_of(r.kind));
-    match sort {
+    match record::sort_of(record::kind_of(r.kind)) {
         Sort::Constant => Set::empty(),
         Sort::Atom => free_in_atom(image, r),
         Sort::Junction => free_below(image, table, e, r.a).union(free_below(image, table, e, r.b)),

@@ -172,8 +172,7 @@ module _ (image : List ℕ) {table : List ℕ} {e : ℕ} {r : Record} {s : Sort}
       none : Plain s → InnerAs s r v (Free v (tree_of image table r.a)) (Free v (tree_of image table r.b)) → ⊥
       none (inl is) = turned is
       none (inr (inl is)) = turned is
-      none (inr (inr (inl is))) = turned is
-      none (inr (inr (inr is))) = turned is
+      none (inr (inr is)) = turned is
 
   module _ (G : Graph) (c : Env) where
     -- The stages from which a modality holds.

@@ -206,8 +206,7 @@ module _ (setup : Setup) {e : ℕ} {env : Env} (ready : Ready setup.table.now se
         none : Plain s → (k : Kind) (a b : Stages) (u : ℕ) → modal_as s k (graph_of image) a b u ≡ false
         none (inl is) k a b u = ap (λ (q : Sort). modal_as q k (graph_of image) a b u) is
         none (inr (inl is)) k a b u = ap (λ (q : Sort). modal_as q k (graph_of image) a b u) is
-        none (inr (inr (inl is))) k a b u = ap (λ (q : Sort). modal_as q k (graph_of image) a b u) is
-        none (inr (inr (inr is))) k a b u = ap (λ (q : Sort). modal_as q k (graph_of image) a b u) is
+        none (inr (inr is)) k a b u = ap (λ (q : Sort). modal_as q k (graph_of image) a b u) is
 
   -- ---- a modality at each stage of x
 

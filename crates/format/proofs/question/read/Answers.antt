@@ -25,14 +25,14 @@ returns-then-shape-goal c =
     given-later (setup_conditions image table) (goal_conditions image table c.args.goal c.args.start) R.NoSuchGoal c.in_ok-shape.ensures.clear
     (inl (refl, omega (arith, c.if-shape-goal.true, shape-entries c.in_ok-shape.ensures)))
 
-pub returns-then-inner-start : goal.returns-then-inner-start
-returns-then-inner-start c =
+pub returns-then-shape-start : goal.returns-then-shape-start
+returns-then-shape-start c =
     let image = c.args.image.now in
     let table = c.args.table.now in
     given-later (setup_conditions image table) (goal_conditions image table c.args.goal c.args.start) R.NoSuchStart c.in_ok-shape.ensures.clear
     (inr (
       λ h. omega (arith, h, c.if-shape-goal.false, shape-entries c.in_ok-shape.ensures),
-      inl (refl, omega (arith, c.if-inner-start.true, shape-stages c.in_ok-shape.ensures)),
+      inl (refl, omega (arith, c.if-shape-start.true, shape-stages c.in_ok-shape.ensures)),
     ))
 
 pub returns-then-other_free : goal.returns-then-other_free
@@ -43,7 +43,7 @@ returns-then-other_free c =
     (inr (
       λ h. omega (arith, h, c.if-shape-goal.false, shape-entries c.in_ok-shape.ensures),
       inr (
-        λ h. omega (arith, h, c.if-inner-start.false, shape-stages c.in_ok-shape.ensures),
+        λ h. omega (arith, h, c.if-shape-start.false, shape-stages c.in_ok-shape.ensures),
         inl (refl, decided _ c.other_free.ensures c.if-other_free.true),
       ),
     ))
