@@ -63,7 +63,8 @@ told-steps certificate (Err (Stop.Wrong place)) inside = wrong certificate refl
 told-steps certificate (Err (Stop.Fails place)) inside = fails certificate refl
 
 -- Two refusals with their places are one exactly when their numbers and places are.
-numbered : (j k : Refusal) (q place : ℕ) → (◌≡◌ {A = Result ℕ Fault} (Err (fault_at j q)) (Err (fault_at k place))) ↔ (refused (number j) q ≡ refused (number k) place)
+numbered : (j k : Refusal) (q place : ℕ)
+    → (◌≡◌ {A = Result ℕ Fault} (Err (fault_at j q)) (Err (fault_at k place))) ↔ (refused (number j) q ≡ refused (number k) place)
 numbered j k q place = (
   λ e. let same : fault_at j q ≡ fault_at k place = cc in ap (λ (f : Fault). refused (number f.refusal) f.place) same,
   λ e. let f : number j ≡ number k = cc in let g : q ≡ place = cc in λ i. Err (fault_at (number-injective j k f i) (g i)),

@@ -134,7 +134,8 @@ module _ (image table certificate : List ℕ) (goal start : ℕ) where
   -- ---- the refusals of the steps, in the words of document 01
 
   -- Where neither the question nor the header is refused, 22 to 25 are given exactly when the crate `rules` says of the goal on the certificate's side.
-  module _ (clear : Clear (outer_conditions image table certificate goal start)) (r : Result ℕ Refusal) (p : CheckAnswer image table certificate goal start r) where
+  module _ (clear : Clear (outer_conditions image table certificate goal start)) (r : Result ℕ Refusal)
+      (p : CheckAnswer image table certificate goal start r) where
     abbrev goal_here : Entry
     goal_here = proved image table certificate goal start
 

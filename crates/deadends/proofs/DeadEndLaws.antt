@@ -3,12 +3,12 @@
 --     Able, never-able              EU(true, fired); no path reaches predicate 0 exactly when it does not hold
 --     able-test                     the rounds that test it
 --     dead-unless                   a set of the stages at which it does not hold is the set of the dead ends
---     listed-dead, listed-many      the set that the code lists, and that its number of stages fits a byte
+--     listed-dead                   the set that the code lists
 --     clear-image, all-stages, clear-row
 --                                   an image that the report does not refuse, its stages, and the row that is decoded of it
 --
 -- Assumes nothing.
-use Prim.Native.Nat.{ℕ, ◌-◌, ◌^◌, ◌≤◌, ◌<◌, min}
+use Prim.Native.Nat.{ℕ, ◌-◌, ◌≤◌, ◌<◌, min}
 use native.Mathlib.Omega.{arith}
 use mathlib.Core.Path.{◌≡◌, sym, subst}
 use mathlib.Core.Bool.{Bool}
@@ -16,7 +16,6 @@ use mathlib.Core.List.{List}
 use mathlib.Core.Logic.Iff
 use mathlib.Core.Logic.{◌↔◌}
 use lib.Bits.{bit_and}
-use lib.Count.{ones, ones-le}
 use lib.Dec.{T}
 use lib.ListN.{length}
 use Rattle.sets.specs.declared.Set.{Set}
@@ -104,7 +103,3 @@ module _ {image : List ℕ} (clear : Clear (report_conditions image)) where
             (low, λ a. m.1 ((found-able s low).1 a)),
         λ u. subst (λ (x : ℕ). Has x s) (sym rest) ((has-minus all able s).1 (each s u.0, λ h. u.1 ((found-able s u.0).0 h))),
       )
-
--- The number of stages in a set fits a byte.
-pub listed-many : (s c : ℕ) → s < 2 ^ width → c ≡ ones s → c < 256
-listed-many s c h e = omega (arith, ones-le width s h)

@@ -3,7 +3,7 @@
 --     put_none, put-join, put-room     no byte; a piece and then the next; what is left of the room
 --     hex-room, hex-more               room for the next byte in hex, and the two digits of it
 --     decimal_digit, decimal-digits    a number below ten, and any other
---     length-small, length_more, digits-small, digits_more
+--     length-small, length_more, logarithm-digits
 --                                      how many digits a number has
 --     side-short                       the side words
 --     line-length, refusal-length, line-end
@@ -19,7 +19,8 @@ use native.Mathlib.Omega.{arith}
 use mathlib.Core.Path.{◌≡◌, refl, sym, ap, ap₂, ◌∙◌, subst}
 use mathlib.Core.List.{List, [], ◌∷◌, ◌++◌}
 use lib.ListN.{length, take, get_or, length-append, length-take}
-use Rattle.std.specs.Prelude.{Some, None}
+use Rattle.std.specs.Prelude.{Option, Some, None, IfSome, IfNone, unwrap_or}
+use native.Mathlib.Nat.{pow-suc}
 use Rattle.format.specs.Refusal.{number}
 use Rattle.format.specs.declared.Refusal.{Refusal}
 use Rattle.line.specs.Front.{Written}
@@ -28,7 +29,7 @@ use Rattle.line.specs.Text.{digit, decimal, hex_digit, hex, DigitCount}
 use Rattle.line.specs.Line.{space, line_feed, refused_word, side_word, line_of, refusal_line, Printed}
 use Rattle.line.specs.declared.text.Text.{Text}
 use Rattle.line.proofs.FrontLaws.{written_none, written-join, written-length, written-room, written-front}
-use Rattle.line.proofs.TextLaws.{decimal-small, decimal-more, decimal-short, hex-length, hex-one-more}
+use Rattle.line.proofs.TextLaws.{decimal-small, decimal-more, hex-length, hex-one-more}
 
 -- ---- pieces
 
@@ -70,14 +71,19 @@ length-small n h = ap length (decimal-small n h)
 pub length_more : (n : ℕ) → 10 ≤ n → length (decimal n) ≡ length (decimal (n / 10)) + 1
 length_more n h = ap length (decimal-more n h) ∙ length-append (decimal (n / 10)) (digit (n % 10) ∷ [])
 
-pub digits-small : (n : ℕ) → n < 10 → DigitCount n 1
-digits-small n h = record { is = sym (length-small n h); most = omega arith }
+-- Between two powers of ten.
+length-between : (k n : ℕ) → 10 ^ k ≤ n → n < 10 * 10 ^ k → length (decimal n) ≡ k + 1
+length-between zero n low high = length-small n (omega arith)
+length-between (suc k) n low high =
+    let more = length_more n (omega (arith, low, high, pow-suc 10 k)) in
+    omega (arith, more, length-between k (n / 10) (omega (arith, low, pow-suc 10 k)) (omega (arith, high, pow-suc 10 k)))
 
-pub digits_more : (n r : ℕ) → 10 ≤ n → n < 2 ^ 64 → DigitCount (n / 10) r → DigitCount n (r + 1)
-digits_more n r h fits d = record {
-  is = ap (λ (k : ℕ). k + 1) d.is ∙ sym (length_more n h);
-  most = omega (arith, d.is, length_more n h, decimal-short 19 n (omega arith));
-}
+-- So the logarithm, if there is one, tells how many.
+pub logarithm-digits : (n r : ℕ) (log : Option ℕ) → r ≡ unwrap_or log 0 → IfNone log (n ≡ 0) → IfSome log (λ k. 10 ^ k ≤ n)
+    → IfSome log (λ k. n < 10 * 10 ^ k) → IfSome log (λ k. k < 20) → DigitCount n (r + 1)
+logarithm-digits n r None e none low high few = record { is = omega (arith, e, length-small n (omega (arith, none))); most = omega (arith, e) }
+logarithm-digits n r (Some k) e none low high few =
+    record { is = omega (arith, e, length-between k n low high); most = omega (arith, e, few) }
 
 -- ---- the side word
 

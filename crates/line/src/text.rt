@@ -58,7 +58,7 @@ impl Text<'_> {
 pub(crate) fn digits(n: usize) -> usize
     ensures { DigitCount n result }
 {
-    if n < 10 { 1 } else { digits(n / 10) + 1 }
+    n.checked_ilog10().unwrap_or(0) as usize + 1
 }
 
 // The hex digit of a number below 16.

@@ -1,6 +1,6 @@
 -- `checker::checked` meets its contract: the refusals of the question, of the header and of the steps, in their order.
 use Rattle.std.proofs.lemmas.Result.{err_from_is_err_and}
-use Rattle.checker.proofs.CheckLaws.{own-question, before-question, no_header, other-question, after-header, by-given}
+use Rattle.checker.proofs.CheckLaws.{before-question, no_header, other-question, after-header, by-given}
 use Rattle.checker.proofs.checked.Goals as goal
 
 pub returns-in_err-q : goal.returns-in_err-q
@@ -18,9 +18,6 @@ returns-then-not-names c =
     rw c.into-then-not-names.ensures
     (other-question c.args.image.now c.args.table.now c.args.certificate.now c.args.goal c.args.start c.in_ok-q.ensures.clear c.if-not-fits.ensures
     c.if-not-names.ensures)
-
-pub steps_of-requires : goal.steps_of-requires
-steps_of-requires c = (own-question c.in_ok-q.ensures, c.if-not-fits.ensures.begins.long)
 
 pub returns : goal.returns
 returns c =

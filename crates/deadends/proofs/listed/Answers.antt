@@ -1,14 +1,9 @@
 -- `deadends::listed` meets its contract: what EU(true, fired) leaves of the stages, counted.
 use mathlib.Core.Path.{ap, ◌∙◌}
 use lib.Dec.{lit≤}
-use Rattle.sets.specs.Number.{number}
-use Rattle.sets.proofs.LawsFits.{number_lt}
 use Rattle.format.specs.Image.{set_of}
-use Rattle.deadends.proofs.DeadEndLaws.{all-stages, clear-row, listed-dead, listed-many}
+use Rattle.deadends.proofs.DeadEndLaws.{all-stages, clear-row, listed-dead}
 use Rattle.deadends.proofs.listed.Goals as goal
-
-pub overflow_cast-result : goal.overflow_cast-result
-overflow_cast-result c = record { fits = listed-many (number c.minus-dead.result) c.count.result (number_lt _ _ c.minus-dead.type_inv) c.count.ensures }
 
 pub returns : goal.returns
 returns c =
