@@ -76,4 +76,3 @@ module _ (setup : Setup) {e : ℕ} {env : Env} (ready : Ready setup.table.now se
 
     pub modal-truth : {s : Sort} {b : Bool} → Row table e r s → (s ≡ S.Unary) ⊎ (s ≡ S.Binary) → b ≡ modal_over image table e env → b ≡ truth_of image table e env
     modal-truth row is d = d ∙ modal-here setup ready row is (env_of env)
-

@@ -42,4 +42,3 @@ returns-else-a-first t c =
 pub returns-in-Unary : goal.returns-in-Unary
 returns-in-Unary t c =
     modal-truth c.args.self.now c.requires (row c.entry-r.ensures c.kind_of-kind.ensures c.sort_of.ensures refl) c.in-Unary.is c.holds_from.ensures
-
