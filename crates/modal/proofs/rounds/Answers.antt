@@ -9,7 +9,7 @@ pub loop-init : goal.loop-init
 loop-init g c = loop-start _ c.below.ensures c.common-x.ensures
 
 pub returns-then-eq : goal.returns-then-eq
-returns-then-eq g c = loop-rest _ _ c.loop.invariant c.round-y.ensures (equal-number _ _ c.eq.ensures c.if-eq.true) (omega arith)
+returns-then-eq g c = loop-rest _ _ c.loop.invariant c.round-y.ensures (equal-number c.loop.x c.round-y.result c.eq.ensures c.if-eq.true) (omega arith)
 
 pub loop-preserved : goal.loop-preserved
 loop-preserved g c = loop-more _ _ c.loop.invariant c.round-y.ensures
