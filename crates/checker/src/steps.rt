@@ -189,7 +189,7 @@ impl Steps<'_> {
         }
     }
 
-    // The entry's a at each successor of s, ascending.
+    // The entry's a at each successor of s, ascending. With `on_at_each` it has only the loop's head in common.
     #[cycle(formula_walk)]
     fn at_each(&self, e: u8, env: Env, s: u8, at: &mut usize) -> Result<(), Cause>
         requires { Walking self.now.sets.now self.now.entries.now e (env_of env) s × ((entry_at self.now.entries.now e).a < e) }

@@ -51,11 +51,11 @@ impl From<Refusal> for u64 {
     }
 }
 
-// The byte at a place; 0 past the end.
+// The byte at a place; 0 past the end, as the definitions of the stored forms have it, which are total.
 pub fn byte(bytes: &[u8], at: usize) -> u8
     ensures { result ≡ get_or bytes.now at 0 }
 {
-    if at < bytes.len() { bytes[at] } else { 0 }
+    bytes.get(at).copied().unwrap_or(0)
 }
 
 // Whether a stored form is long enough and begins with its mark and version 1.

@@ -44,7 +44,7 @@ pub struct Record {
     pub t: u8,
 }
 
-// The kind with a number; none above 11.
+// The kind with a number; none above 11. An option, and no `TryFrom`: of a number that is no kind there is nothing to say.
 pub fn kind_with(number: u8) -> Option<Kind>
     ensures { result ≡ kind_with number }
 {
@@ -104,7 +104,7 @@ pub fn entry(table: &[u8], e: usize) -> Record
     entry_byte_by_byte(table, e)
 }
 
-// The same where some of the bytes may be missing.
+// The same where some of the bytes may be missing, one test of the length for each.
 fn entry_byte_by_byte(table: &[u8], e: usize) -> Record
     ensures { result ≡ record_at table.now e }
 {

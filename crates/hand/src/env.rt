@@ -20,15 +20,14 @@ impl Env {
         if x < 4 {
             slots[x as usize] = s;
         }
-        Env { slots: slots }
+        Env { slots }
     }
 
     // The stage of variable v; 0 where there is no such variable.
     pub fn stage(self, v: u8) -> u8
         ensures { result ≡ env_of self v }
     {
-        let slots = self.slots;
-        if v < 4 { slots[v as usize] } else { 0 }
+        self.slots.get(v as usize).copied().unwrap_or(0)
     }
 }
 
@@ -36,13 +35,7 @@ impl Env {
 pub fn names(t: u8, x: u8) -> bool
     ensures { Decides result (Names x (term_of t)) }
 {
-    if t < 64 {
-        return false;
-    }
-    if t - 64 == x {
-        return true;
-    }
-    false
+    t >= 64 && t - 64 == x
 }
 
 // The stage of a term.

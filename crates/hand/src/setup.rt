@@ -20,7 +20,7 @@ pub const SETS: usize = 17 * NEXT;
 pub const ENTRIES: usize = 64;
 
 // An entry that is prepared on a side: its record, with the kind that it has there; and of an atom's predicate the arity and the number of its first set,
-// which of other kinds are 0.
+// which of other kinds are 0. The kind is a number, since every table is prepared, and a record may have any.
 #[derive(Clone, Copy, Default)]
 pub struct Entry {
     pub kind: u8,
@@ -77,18 +77,19 @@ fn made(image: &[u8], r: Record, side: u8) -> Entry
         (0, 0)
     };
     Entry {
-        kind: kind,
+        kind,
         a: r.a,
         b: r.b,
         x: r.x,
         y: r.y,
         t: r.t,
-        arity: arity,
-        first: first,
+        arity,
+        first,
     }
 }
 
-// Whether the atom of an entry is true, from the sets of the image.
+// Whether the atom of an entry is true, from the sets of the image. `crate::atom_holds` says the same of a record: the verdict asks an atom once, and
+// decodes no set of a predicate for it.
 pub fn atom(sets: &[Set; SETS], p: &Entry, env: Env) -> bool
     ensures { result ≡ atom_from sets.now p.now (env_of env) }
 {

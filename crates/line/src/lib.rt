@@ -31,7 +31,7 @@ pub fn parts(input: &[u8]) -> Result<Parts<'_>, Refusal>
     taken_apart(input).ok_or(Refusal::NotOfShape)
 }
 
-// The line of a certificate that was written: its side, its length and its bytes. Returns the line's length; where `out` has no room for the
+// The line of a certificate that was written: its side, of which any number but 0 says no, its length and its bytes. Returns the line's length; where `out` has no room for the
 // whole line nothing is written.
 pub fn yes_no(side: u8, certificate: &[u8], out: &mut [u8]) -> Option<usize>
     ensures { Printed (line_of side certificate.now) out.old out.new result }

@@ -157,8 +157,8 @@ impl Rule {
     }
 }
 
-// The step at a place, for a formula of a kind, given by its number. The code comes first; whether it is one for the formula in hand comes
-// before its chosen byte.
+// The step at a place, for a formula of a kind, given by its number: any number may be asked for, and for one that is no kind there is no step. The code comes
+// first; whether it is one for the formula in hand comes before its chosen byte.
 pub fn read_head(bytes: &[u8], at: usize, kind: u8) -> Result<Step, Unread>
     ensures { result ≡ head_of bytes.now at kind }
 {

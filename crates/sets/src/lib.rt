@@ -127,7 +127,7 @@ impl Set {
         self.bits.count_ones() as usize
     }
 
-    // The lowest stage of the set; the width where it has none.
+    // The lowest stage of the set; the width where it has none, as its clause says: no set holds it, and it is no stage of any graph.
     pub fn lowest(self) -> usize
         ensures { result ≡ count_trailing_zeros width (number self) }
     {

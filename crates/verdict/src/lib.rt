@@ -1,6 +1,6 @@
 // The verdict: whether the goal holds at the start.
 //
-// A question is read and refused, or its goal is evaluated: the successor sets are decoded once into a row of words, a formula becomes the
+// A question is read and refused, or its goal is evaluated: the successor sets are decoded once into a row, a formula becomes the
 // set of the stages at which it holds, with one variable at the stage (`Setup::where_holds`), and a modality is worked out of its
 // operands' sets by the crate `modal`. The goal itself is asked for one truth value (`Setup::holds`).
 //
