@@ -3,7 +3,8 @@
 // own bytes; past the buffer's end there is nothing to do, so that a certificate that does not fit is given up at once, however long it is.
 //
 // All require a formula that holds on the side: an operand is written only where it holds too. Two numbers fall: the entry's, at each operand, and the
-// fuel, at each step of a walk.
+// fuel, at each step of a walk. The buffer and the place go side by side: as one struct, which holds the buffer's `&mut`, each writer would have to promise
+// besides that it keeps the loan, and each place would go through memory.
 ghost use Rattle.std.specs.Prelude.{◌≤◌, length};
 ghost use Rattle.sets.specs.Number.{number};
 ghost use Rattle.format.specs.declared.record.Kind.TheVariants.{Or, AX, EX, AF, EG, AR, EU};
