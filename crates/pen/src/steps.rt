@@ -184,7 +184,8 @@ impl Run<'_> {
         lens: &mut [u64; sets::WIDTH],
         sheet: &mut Sheet<'_>,
     )
-        requires { AfAt self.now.setup.image.now self.now.setup.table.now self.now.side e env (number stop) s left lens.old × (sheet.old.at ≤ length sheet.old.out.now) }
+        requires { AfAt self.now.setup.image.now self.now.setup.table.now self.now.side e env (number stop) s left lens.old
+            × (sheet.old.at ≤ length sheet.old.out.now) }
         ensures wrote { Wrote self.now.writing (af_steps self.now.setup.image.now self.now.setup.table.now self.now.side e (env_of env) s)
             sheet.old.at sheet.old.out.now sheet.new.out.now sheet.new.at }
         ensures same { sheet.new.out.ghost_name ≡ sheet.old.out.ghost_name }
@@ -254,7 +255,8 @@ impl Run<'_> {
     #[cycle(af_af_from_af_step_ar_ar_from_ax_eg_eu_ex_formula_or)]
     fn ar(&self, e: u8, env: Env, stop: Set, walk: Set, s: u8, left: usize, sheet: &mut Sheet<'_>)
         requires { ArAt self.now.setup.image.now self.now.setup.table.now self.now.side e env (number stop) s left }
-        ensures wrote { Wrote self.now.writing (two_steps self.now.setup.image.now self.now.setup.table.now self.now.side rule.Kind.AR e (env_of env) left (walk_of (number walk)) s)
+        ensures wrote { Wrote self.now.writing
+            (two_steps self.now.setup.image.now self.now.setup.table.now self.now.side rule.Kind.AR e (env_of env) left (walk_of (number walk)) s)
             sheet.old.at sheet.old.out.now sheet.new.out.now sheet.new.at }
         ensures same { sheet.new.out.ghost_name ≡ sheet.old.out.ghost_name }
     {
