@@ -61,7 +61,7 @@ impl Run<'_> {
     // Or: left if it holds, else right.
     #[cycle(af_af_from_af_step_ar_ar_from_ax_eg_eu_ex_formula_or)]
     fn or(&self, e: u8, env: Env, sheet: &mut Sheet<'_>)
-        requires { InHand self.now.setup.image.now self.now.setup.table.now self.now.side e env Or × (sheet.old.at ≤ length sheet.old.out.now) }
+        requires { InHand self.now.setup.image.now self.now.setup.table.now self.now.side e env Or }
         ensures wrote { Wrote self.now.writing (entry_steps self.now.setup.image.now self.now.setup.table.now self.now.side e (env_of env))
             sheet.old.at sheet.old.out.now sheet.new.out.now sheet.new.at }
         ensures same { sheet.new.out.ghost_name ≡ sheet.old.out.ghost_name }
@@ -79,7 +79,7 @@ impl Run<'_> {
     // AX: a at each successor, ascending.
     #[cycle(af_af_from_af_step_ar_ar_from_ax_eg_eu_ex_formula_or)]
     fn ax(&self, e: u8, env: Env, sheet: &mut Sheet<'_>)
-        requires { InHand self.now.setup.image.now self.now.setup.table.now self.now.side e env AX × (sheet.old.at ≤ length sheet.old.out.now) }
+        requires { InHand self.now.setup.image.now self.now.setup.table.now self.now.side e env AX }
         ensures wrote { Wrote self.now.writing (entry_steps self.now.setup.image.now self.now.setup.table.now self.now.side e (env_of env))
             sheet.old.at sheet.old.out.now sheet.new.out.now sheet.new.at }
         ensures same { sheet.new.out.ghost_name ≡ sheet.old.out.ghost_name }
@@ -95,7 +95,7 @@ impl Run<'_> {
     // EX: a at the lowest successor at which it holds.
     #[cycle(af_af_from_af_step_ar_ar_from_ax_eg_eu_ex_formula_or)]
     fn ex(&self, e: u8, env: Env, sheet: &mut Sheet<'_>)
-        requires { InHand self.now.setup.image.now self.now.setup.table.now self.now.side e env EX × (sheet.old.at ≤ length sheet.old.out.now) }
+        requires { InHand self.now.setup.image.now self.now.setup.table.now self.now.side e env EX }
         ensures wrote { Wrote self.now.writing (entry_steps self.now.setup.image.now self.now.setup.table.now self.now.side e (env_of env))
             sheet.old.at sheet.old.out.now sheet.new.out.now sheet.new.at }
         ensures same { sheet.new.out.ghost_name ≡ sheet.old.out.ghost_name }
@@ -114,7 +114,7 @@ impl Run<'_> {
     // AF, from the start of its walk: it goes now where a holds. No length is known yet.
     #[cycle(af_af_from_af_step_ar_ar_from_ax_eg_eu_ex_formula_or)]
     fn af_from(&self, e: u8, env: Env, sheet: &mut Sheet<'_>)
-        requires { InHand self.now.setup.image.now self.now.setup.table.now self.now.side e env AF × (sheet.old.at ≤ length sheet.old.out.now) }
+        requires { InHand self.now.setup.image.now self.now.setup.table.now self.now.side e env AF }
         ensures wrote { Wrote self.now.writing (entry_steps self.now.setup.image.now self.now.setup.table.now self.now.side e (env_of env))
             sheet.old.at sheet.old.out.now sheet.new.out.now sheet.new.at }
         ensures same { sheet.new.out.ghost_name ≡ sheet.old.out.ghost_name }
@@ -236,7 +236,7 @@ impl Run<'_> {
     // AR, from the start of its walk: it is released where a holds.
     #[cycle(af_af_from_af_step_ar_ar_from_ax_eg_eu_ex_formula_or)]
     fn ar_from(&self, e: u8, env: Env, sheet: &mut Sheet<'_>)
-        requires { InHand self.now.setup.image.now self.now.setup.table.now self.now.side e env AR × (sheet.old.at ≤ length sheet.old.out.now) }
+        requires { InHand self.now.setup.image.now self.now.setup.table.now self.now.side e env AR }
         ensures wrote { Wrote self.now.writing (entry_steps self.now.setup.image.now self.now.setup.table.now self.now.side e (env_of env))
             sheet.old.at sheet.old.out.now sheet.new.out.now sheet.new.at }
         ensures same { sheet.new.out.ghost_name ≡ sheet.old.out.ghost_name }

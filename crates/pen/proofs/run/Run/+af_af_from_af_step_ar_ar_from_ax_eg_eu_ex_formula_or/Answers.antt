@@ -39,7 +39,7 @@ use Rattle.pen.proofs.run.Run.+af_af_from_af_step_ar_ar_from_ax_eg_eu_ex_formula
 pub af_from-where_on-stop-requires : goal.af_from-where_on-stop-requires
 af_from-where_on-stop-requires t c =
     let run = c.args.self.now in
-    let h = c.requires.0 in
+    let h = c.requires in
     let f = fields run h.holding refl in
     let rule = rule-of run h in
     ready_of run h.holding f.a rule.a
@@ -49,7 +49,7 @@ af_from-af-requires t c =
     let run = c.args.self.now in
     let e = c.args.e in
     let env = c.args.env in
-    let h = c.requires.0 in
+    let h = c.requires in
     let f = fields run h.holding refl in
     let rule = rule-of run h in
     let s-is = start_is run h.holding f c.stage_of-s.ensures in
@@ -69,7 +69,7 @@ af_from-af-requires t c =
 pub af_from-returns-clause-wrote : goal.af_from-returns-clause-wrote
 af_from-returns-clause-wrote t c =
     let run = c.args.self.now in
-    let h = c.requires.0 in
+    let h = c.requires in
     let f = fields run h.holding refl in
     let s-is = start_is run h.holding f c.stage_of-s.ensures in
     wrote-same (ap (af_steps run.setup.image.now run.setup.table.now run.side c.args.e (env_of c.args.env)) s-is ∙ af-start run h)
@@ -166,7 +166,7 @@ af_step-returns-clause-wrote t c =
 pub ar_from-where_on-stop-requires : goal.ar_from-where_on-stop-requires
 ar_from-where_on-stop-requires t c =
     let run = c.args.self.now in
-    let h = c.requires.0 in
+    let h = c.requires in
     let f = fields run h.holding refl in
     let rule = rule-of run h in
     ready_of run h.holding f.a rule.a
@@ -176,7 +176,7 @@ ar_from-ar-requires t c =
     let run = c.args.self.now in
     let e = c.args.e in
     let env = c.args.env in
-    let h = c.requires.0 in
+    let h = c.requires in
     let f = fields run h.holding refl in
     let rule = rule-of run h in
     let s-is = start_is run h.holding f c.stage_of-s.ensures in
@@ -195,7 +195,7 @@ ar_from-ar-requires t c =
 pub ar_from-returns-clause-wrote : goal.ar_from-returns-clause-wrote
 ar_from-returns-clause-wrote t c =
     let run = c.args.self.now in
-    let h = c.requires.0 in
+    let h = c.requires in
     let f = fields run h.holding refl in
     let s-is = start_is run h.holding f c.stage_of-s.ensures in
     wrote-same (ar-begins run h (omega (arith, run-stages run)) c.empty.ensures s-is) c.ar.ensures.wrote
@@ -543,22 +543,22 @@ formula-formula-requires-in-And t c =
 pub formula-or-requires : goal.formula-or-requires
 formula-or-requires t c =
     let run = c.args.self.now in
-    (omega (arith, c.decreases), (in_arm run c.requires refl c.kind_of.ensures c.in-Or.is, c.if-sheet.false))
+    (omega (arith, c.decreases), in_arm run c.requires refl c.kind_of.ensures c.in-Or.is)
 
 pub formula-ax-requires : goal.formula-ax-requires
 formula-ax-requires t c =
     let run = c.args.self.now in
-    (omega (arith, c.decreases), (in_arm run c.requires refl c.kind_of.ensures c.in-AX.is, c.if-sheet.false))
+    (omega (arith, c.decreases), in_arm run c.requires refl c.kind_of.ensures c.in-AX.is)
 
 pub formula-ex-requires : goal.formula-ex-requires
 formula-ex-requires t c =
     let run = c.args.self.now in
-    (omega (arith, c.decreases), (in_arm run c.requires refl c.kind_of.ensures c.in-EX.is, c.if-sheet.false))
+    (omega (arith, c.decreases), in_arm run c.requires refl c.kind_of.ensures c.in-EX.is)
 
 pub formula-af_from-requires : goal.formula-af_from-requires
 formula-af_from-requires t c =
     let run = c.args.self.now in
-    (omega (arith, c.decreases), (in_arm run c.requires refl c.kind_of.ensures c.in-AF.is, c.if-sheet.false))
+    (omega (arith, c.decreases), in_arm run c.requires refl c.kind_of.ensures c.in-AF.is)
 
 pub formula-eg-requires : goal.formula-eg-requires
 formula-eg-requires t c =
@@ -568,7 +568,7 @@ formula-eg-requires t c =
 pub formula-ar_from-requires : goal.formula-ar_from-requires
 formula-ar_from-requires t c =
     let run = c.args.self.now in
-    (omega (arith, c.decreases), (in_arm run c.requires refl c.kind_of.ensures c.in-AR.is, c.if-sheet.false))
+    (omega (arith, c.decreases), in_arm run c.requires refl c.kind_of.ensures c.in-AR.is)
 
 pub formula-eu-requires : goal.formula-eu-requires
 formula-eu-requires t c =
@@ -611,7 +611,7 @@ formula-returns-in-And-clause-wrote t c =
 pub or-holds_on-requires : goal.or-holds_on-requires
 or-holds_on-requires t c =
     let run = c.args.self.now in
-    let h = c.requires.0 in
+    let h = c.requires in
     let f = fields run h.holding refl in
     let rule = rule-of run h in
     ready_of run h.holding f.a rule.a
@@ -619,7 +619,7 @@ or-holds_on-requires t c =
 pub or-formula-requires : goal.or-formula-requires
 or-formula-requires t c =
     let run = c.args.self.now in
-    let h = c.requires.0 in
+    let h = c.requires in
     let f = fields run h.holding refl in
     let rule = rule-of run h in (
       omega (arith, c.decreases, f.a, rule.a),
@@ -630,7 +630,7 @@ or-formula-requires t c =
 pub or-returns-then-holds_on-clause-wrote : goal.or-returns-then-holds_on-clause-wrote
 or-returns-then-holds_on-clause-wrote t c =
     let run = c.args.self.now in
-    let h = c.requires.0 in
+    let h = c.requires in
     let f = fields run h.holding refl in
     wrote-same (left-steps run h (told-true run c.args.env f.a c.holds_on.ensures c.if-holds_on.true))
     (wrote-both c.rule.ensures.wrote (plain-wrote run f.a _ c.formula.ensures.wrote))
@@ -638,7 +638,7 @@ or-returns-then-holds_on-clause-wrote t c =
 pub or-formula-requires-else-holds_on : goal.or-formula-requires-else-holds_on
 or-formula-requires-else-holds_on t c =
     let run = c.args.self.now in
-    let h = c.requires.0 in
+    let h = c.requires in
     let f = fields run h.holding refl in
     let rule = rule-of run h in (
       omega (arith, c.decreases, f.b, rule.b),
@@ -649,7 +649,7 @@ or-formula-requires-else-holds_on t c =
 pub or-returns-else-holds_on-clause-wrote : goal.or-returns-else-holds_on-clause-wrote
 or-returns-else-holds_on-clause-wrote t c =
     let run = c.args.self.now in
-    let h = c.requires.0 in
+    let h = c.requires in
     let f = fields run h.holding refl in
     wrote-same (right-steps run h (told-false run c.args.env f.a c.holds_on.ensures c.if-holds_on.false))
     (wrote-both c.rule-else-holds_on.ensures.wrote (plain-wrote run f.b _
@@ -660,7 +660,7 @@ or-returns-else-holds_on-clause-wrote t c =
 pub ax-loop-t-init : goal.ax-loop-t-init
 ax-loop-t-init t c =
     let run = c.args.self.now in
-    let h = c.requires.0 in
+    let h = c.requires in
     let f = fields run h.holding refl in
     let rule = rule-of run h in
     let row = run-row run in
@@ -673,7 +673,7 @@ ax-loop-t-init t c =
 pub ax-formula-requires : goal.ax-formula-requires
 ax-formula-requires t c =
     let run = c.args.self.now in
-    let h = c.requires.0 in
+    let h = c.requires in
     let f = fields run h.holding refl in
     let rule = rule-of run h in
     let row = run-row run in
@@ -688,7 +688,7 @@ ax-formula-requires t c =
 pub ax-loop-t-preserved : goal.ax-loop-t-preserved
 ax-loop-t-preserved t c =
     let run = c.args.self.now in
-    let h = c.requires.0 in
+    let h = c.requires in
     let f = fields run h.holding refl in
     let rule = rule-of run h in
     let row = run-row run in
@@ -702,7 +702,7 @@ ax-loop-t-preserved t c =
 pub ax-returns-clause-wrote : goal.ax-returns-clause-wrote
 ax-returns-clause-wrote t c =
     let run = c.args.self.now in
-    let h = c.requires.0 in
+    let h = c.requires in
     let rule = rule-of run h in
     let row = run-row run in
     let below = start-below run h.holding rule.t in
@@ -713,7 +713,7 @@ ax-returns-clause-wrote t c =
 pub ex-ex-c-requires : goal.ex-ex-c-requires
 ex-ex-c-requires t c =
     let run = c.args.self.now in
-    let h = c.requires.0 in
+    let h = c.requires in
     let f = fields run h.holding refl in
     let rule = rule-of run h in
     let s-is = start_is run h.holding f c.stage_of.ensures in
@@ -724,7 +724,7 @@ pub ex-formula-requires : goal.ex-formula-requires
 ex-formula-requires t c =
     let run = c.args.self.now in
     let env = c.args.env in
-    let h = c.requires.0 in
+    let h = c.requires in
     let f = fields run h.holding refl in
     let rule = rule-of run h in
     let s-is = start_is run h.holding f c.stage_of.ensures in
@@ -739,7 +739,7 @@ pub ex-returns-clause-wrote : goal.ex-returns-clause-wrote
 ex-returns-clause-wrote t c =
     let run = c.args.self.now in
     let env = c.args.env in
-    let h = c.requires.0 in
+    let h = c.requires in
     let f = fields run h.holding refl in
     let rule = rule-of run h in
     let s-is = start_is run h.holding f c.stage_of.ensures in
@@ -752,14 +752,14 @@ ex-returns-clause-wrote t c =
 pub af_from-invariant_of-a : goal.af_from-invariant_of-a
 af_from-invariant_of-a t c =
     let run = c.args.self.now in
-    let h = c.requires.0 in
+    let h = c.requires in
     let f = fields run h.holding refl in
     omega (arith, f.x, (rule-of run h).x)
 
 pub ar_from-invariant_of-a : goal.ar_from-invariant_of-a
 ar_from-invariant_of-a t c =
     let run = c.args.self.now in
-    let h = c.requires.0 in
+    let h = c.requires in
     let f = fields run h.holding refl in
     omega (arith, f.x, (rule-of run h).x)
 
@@ -780,6 +780,6 @@ eu-invariant_of-b t c =
 pub ex-invariant_of-a : goal.ex-invariant_of-a
 ex-invariant_of-a t c =
     let run = c.args.self.now in
-    let h = c.requires.0 in
+    let h = c.requires in
     let f = fields run h.holding refl in
     omega (arith, f.x, (rule-of run h).x)
