@@ -3,25 +3,26 @@
 --     told-true, told-false, choice-of, collects-of, leads-of, nearest-of
 --                                        what the guide says of operands that are read of the entry, said of those of its record
 --     af-now-steps, af-later-steps       AF at a stage
---     noted-new                          the lengths of AF that are noted
+--     noted-new, noted_more              the lengths of AF that are noted
 --     eg-begins, eg-merges, eg-goes      EG in a loop
 --     one-ends, two_ends                 no fuel is left
 --     ar-begins, ar-merges, ar-releases, ar-goes
 --                                        AR at a stage
 --     eu-begins, eu-stops, eu-goes       EU in a loop
-use Prim.Native.Nat.{ℕ, suc, ◌<◌}
+use Prim.Native.Nat.{ℕ, suc, ◌-◌, ◌≤◌, ◌<◌}
 use native.Mathlib.Omega.{arith}
 use mathlib.Core.Path.{◌≡◌, sym, ap, ap₂, subst, ◌∙◌}
 use mathlib.Core.Bool.{Bool, true, false}
 use mathlib.Core.List.{List, [], ◌∷◌, ◌++◌, append_assoc}
-use mathlib.Core.Logic.{⊎_elim}
 use lib.Bits.{bit_or}
 use lib.Dec.{T}
-use lib.ListN.{get_or, replicate, length-replicate, get_or-replicate, get_or-eq_default}
+use mathlib.Core.Logic.{⊎_elim}
+use lib.ListN.{length, get_or, set, replicate, length-replicate, get_or-replicate, get_or-eq_default}
+use lib.Seq.{get_or-set_same, get_or-set_other, set_out}
+use Rattle.sets.proofs.LawsMember.{same?, side?}
 use Rattle.logic.specs.Rules.{Walk, empty, also, On}
 use Rattle.logic.specs.Test.{Stages, eg, eu}
 use Rattle.sets.specs.Number.{single, width}
-use Rattle.sets.proofs.LawsMember.{side?}
 use Rattle.format.specs.Image.{stages_of, graph_of}
 use Rattle.format.specs.declared.record.Kind.TheVariants as K
 use Rattle.rules.specs.Kind.{Kind}
@@ -35,6 +36,7 @@ use Rattle.written.specs.Written.{through, no_entry}
 use Rattle.guide.specs.Sides.{truth_on, held_on}
 use Rattle.guide.specs.Toward.{Filled}
 use Rattle.checker.specs.Reading.{walk_of}
+use Rattle.pen.specs.Wrote.{Wrote}
 use Rattle.pen.specs.Steps.{entry_steps, bound_entry, a_of, b_of, start_of, one_steps, two_steps, af_steps, InHand, Noted, AfAt}
 use Rattle.pen.specs.declared.run.Run.{Run}
 use Rattle.pen.proofs.RunLaws.{run-readable, run-stages}
@@ -140,6 +142,18 @@ module _ (run : Run) where
     where
       none : (s : ℕ) → get_or none-known s 0 ≡ 0
       none s = ⊎_elim (get_or-replicate width s 0 0) (λ h. get_or-eq_default none-known 0 {n = s} (omega (arith, length-replicate {A = ℕ} width 0, h))) (side? s width)
+
+  -- A length that the buffer has room for is noted, where there is room for it.
+  pub noted_more : (e : ℕ) (env : Slots) {lens : List ℕ} {w : Bool} (s : ℕ) {p q : ℕ} {l k : List ℕ}
+      → Noted image table side e (env_of env) lens → Wrote w (af_steps image table side e (env_of env) s) p l k q → q ≤ length l
+      → Noted image table side e (env_of env) (set lens s (q - p))
+  noted_more e env {lens} s {p} {q} n wrote fits =
+      ⊎_elim (λ h. record {
+        each = λ t i. ⊎_elim
+            (λ (d : t ≡ s). subst (λ (u : ℕ). get_or (set lens s (q - p)) u 0 ≡ length (af_steps image table side e (env_of env) u)) (sym d)
+            (get_or-set_same lens s (q - p) 0 h ∙ omega (arith, wrote.goes)))
+            (λ d. get_or-set_other lens s t (q - p) 0 d ∙ n.each t (subst (λ (z : ℕ). 0 < z) (get_or-set_other lens s t (q - p) 0 d) i)) (same? t s);
+      }) (λ h. rw (set_out lens s (q - p) h) n) (side? s (length lens))
 
   -- ---- EG
 

@@ -1,5 +1,5 @@
-// Bytes put into a lent buffer one after the other, or only counted. A place is how many bytes came before; it is counted up to one past the
-// buffer's end and no further, so a place past the end says that there was no room.
+// Bytes put on a sheet one after the other, or only counted. A place is how many bytes came before; it is counted up to one past the buffer's end and no
+// further, so a place past the end says that there was no room.
 ghost use Rattle.std.specs.Prelude.{◌≡◌, [], ◌∷◌};
 ghost use Rattle.rules.specs.Table.{row};
 ghost use Rattle.checker.specs.Header.{header_of};
@@ -8,38 +8,49 @@ ghost use Rattle.pen.specs.Wrote.{Wrote};
 use crate::run::Run;
 use rules::Rule;
 
+// A lent buffer, and the place that the writing came to.
+#[derive(Drop)]
+pub(crate) struct Sheet<'a> {
+    pub(crate) out: &'a mut [u8],
+    pub(crate) at: usize,
+}
+
 impl Run<'_> {
     // One byte. Where it is only counted, the buffer stays as it is.
-    pub(crate) fn put(&self, b: u8, out: &mut [u8], at: usize) -> usize
-        ensures { Wrote self.now.writing (b ∷ []) at out.old out.new result }
+    pub(crate) fn put(&self, b: u8, sheet: &mut Sheet<'_>)
+        ensures wrote { Wrote self.now.writing (b ∷ []) sheet.old.at sheet.old.out.now sheet.new.out.now sheet.new.at }
+        ensures same { sheet.new.out.ghost_name ≡ sheet.old.out.ghost_name }
     {
-        if out.len() <= at {
-            return out.len() + 1;
+        if sheet.out.len() <= sheet.at {
+            sheet.at = sheet.out.len() + 1;
+            return;
         }
         if self.writing {
-            out[at] = b;
+            sheet.out[sheet.at] = b;
         }
-        at + 1
+        sheet.at += 1;
     }
 
     // A rule's code.
-    pub(crate) fn rule(&self, rule: Rule, out: &mut [u8], at: usize) -> usize
-        ensures { Wrote self.now.writing ((row rule).code ∷ []) at out.old out.new result }
+    pub(crate) fn rule(&self, rule: Rule, sheet: &mut Sheet<'_>)
+        ensures wrote { Wrote self.now.writing ((row rule).code ∷ []) sheet.old.at sheet.old.out.now sheet.new.out.now sheet.new.at }
+        ensures same { sheet.new.out.ghost_name ≡ sheet.old.out.ghost_name }
     {
-        self.put(rule.code(), out, at)
+        self.put(rule.code(), sheet);
     }
 
     // The header of a certificate: its mark and version, the side that it proves, and the goal and start that it names.
-    pub(crate) fn header(&self, goal: u8, start: u8, out: &mut [u8]) -> usize
-        ensures { Wrote self.now.writing (header_of self.now.side goal start) 0 out.old out.new result }
+    pub(crate) fn header(&self, goal: u8, start: u8, sheet: &mut Sheet<'_>)
+        ensures wrote { Wrote self.now.writing (header_of self.now.side goal start) sheet.old.at sheet.old.out.now sheet.new.out.now sheet.new.at }
+        ensures same { sheet.new.out.ghost_name ≡ sheet.old.out.ghost_name }
     {
-        let z = self.put(b'Z', out, 0);
-        let s = self.put(b'S', out, z);
-        let c = self.put(b'C', out, s);
-        let high = self.put(0, out, c);
-        let low = self.put(1, out, high);
-        let sided = self.put(self.side, out, low);
-        let named = self.put(goal, out, sided);
-        self.put(start, out, named)
+        self.put(b'Z', sheet);
+        self.put(b'S', sheet);
+        self.put(b'C', sheet);
+        self.put(0, sheet);
+        self.put(1, sheet);
+        self.put(self.side, sheet);
+        self.put(goal, sheet);
+        self.put(start, sheet);
     }
 }

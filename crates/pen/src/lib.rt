@@ -9,6 +9,7 @@ ghost use Rattle.hand.specs.Environment.{env_of};
 ghost use Rattle.pen.specs.Wrote.{Wrote};
 ghost use Rattle.pen.specs.Steps.{whole_bytes, Holding};
 
+use bytes::Sheet;
 use hand::env::Env;
 use run::Run;
 
@@ -19,6 +20,9 @@ pub fn whole(run: &Run<'_>, goal: u8, start: u8, env: Env, out: &mut [u8]) -> us
     ensures { Wrote run.now.writing (whole_bytes run.now.setup.image.now run.now.setup.table.now run.now.side goal start (env_of env))
         0 out.old out.new result }
 {
-    let begun = run.header(goal, start, out);
-    run.formula(goal, env, out, begun)
+    let mut sheet = Sheet { out, at: 0 };
+    run.header(goal, start, &mut sheet);
+    run.formula(goal, env, &mut sheet);
+    let Sheet { out: _, at } = sheet;
+    at
 }

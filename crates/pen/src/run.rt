@@ -21,5 +21,6 @@ pub struct Run<'a> {
     pub ghost sets: { (s : ℕ) → s < stages_of setup.image.now → SuccessorsOf setup.image.now s (held setup.next.now s) },
     pub ghost readable: { ∥ Readable (graph_of setup.image.now) ∥₁ },
     pub ghost most: { entries_of setup.table.now ≤ most_entries },
-    pub ghost prepared: { (i : ℕ) → i < entries_of setup.table.now → entry_at entries.now i ≡ entry_of setup.image.now side (record_at setup.table.now i) },
+    pub ghost prepared: { (i : ℕ) → i < entries_of setup.table.now
+        → entry_at entries.now i ≡ entry_of setup.image.now side (record_at setup.table.now i) },
 }

@@ -1,10 +1,10 @@
 // Writing the steps of a certificate: an entry's formula, and a function for each kind of walk, which comes back to formulas for its operands. What a walk
-// goes by is worked out once, when its formula is come to (`guide`). Each writer takes the place that the writing came to, and answers the place after its
-// own bytes; past the buffer's end there is nothing to do, so that a certificate that does not fit is given up at once, however long it is.
+// goes by is worked out once, when its formula is come to (`guide`). Each writer goes on from the place that the writing came to; past the buffer's end there
+// is nothing to do, so that a certificate that does not fit is given up at once, however long it is.
 //
 // All require a formula that holds on the side: an operand is written only where it holds too. Two numbers fall: the entry's, at each operand, and the
 // fuel, at each step of a walk.
-ghost use Rattle.std.specs.Prelude.{◌≤◌, length};
+ghost use Rattle.std.specs.Prelude.{◌≡◌, ◌≤◌, length};
 ghost use Rattle.sets.specs.Number.{number};
 ghost use Rattle.format.specs.declared.record.Kind.TheVariants.{Or, AX, EX, AF, EG, AR, EU};
 ghost use Rattle.rules.specs.Kind as rule;
@@ -13,6 +13,7 @@ ghost use Rattle.checker.specs.Reading.{walk_of};
 ghost use Rattle.pen.specs.Wrote.{Wrote};
 ghost use Rattle.pen.specs.Steps.{entry_steps, af_steps, two_steps, Holding, InHand, AfAt, ArAt, Noted};
 
+use crate::bytes::Sheet;
 use crate::run::Run;
 use format::record;
 use format::record::Kind;
@@ -26,70 +27,78 @@ use sets::Set;
 impl Run<'_> {
     // An entry's formula, from the start of its walk. False holds nowhere.
     #[cycle(af_af_from_af_step_ar_ar_from_ax_eg_eu_ex_formula_or)]
-    pub(crate) fn formula(&self, e: u8, env: Env, out: &mut [u8], at: usize) -> usize
+    pub(crate) fn formula(&self, e: u8, env: Env, sheet: &mut Sheet<'_>)
         requires { Holding self.now.setup.image.now self.now.setup.table.now self.now.side e env }
-        ensures { Wrote self.now.writing (entry_steps self.now.setup.image.now self.now.setup.table.now self.now.side e (env_of env)) at out.old out.new result }
+        ensures wrote { Wrote self.now.writing (entry_steps self.now.setup.image.now self.now.setup.table.now self.now.side e (env_of env))
+            sheet.old.at sheet.old.out.now sheet.new.out.now sheet.new.at }
+        ensures same { sheet.new.out.ghost_name ≡ sheet.old.out.ghost_name }
     {
-        if out.len() < at {
-            return out.len() + 1;
+        if sheet.out.len() < sheet.at {
+            sheet.at = sheet.out.len() + 1;
+            return;
         }
         let f = self.entries[e as usize];
         match record::kind_of(f.kind) {
-            Kind::True => self.rule(Rule::True, out, at),
-            Kind::Is => self.rule(Rule::Holds, out, at),
-            Kind::IsNot => self.rule(Rule::HoldsNot, out, at),
+            Kind::True => self.rule(Rule::True, sheet),
+            Kind::Is => self.rule(Rule::Holds, sheet),
+            Kind::IsNot => self.rule(Rule::HoldsNot, sheet),
             Kind::And => {
-                let on = self.rule(Rule::And, out, at);
-                let a = self.formula(f.a, env, out, on);
-                self.formula(f.b, env, out, a)
+                self.rule(Rule::And, sheet);
+                self.formula(f.a, env, sheet);
+                self.formula(f.b, env, sheet)
             }
-            Kind::Or => self.or(e, env, out, at),
-            Kind::AX => self.ax(e, env, out, at),
-            Kind::EX => self.ex(e, env, out, at),
-            Kind::AF => self.af_from(e, env, out, at),
-            Kind::EG => self.eg(e, env, out, at),
-            Kind::AR => self.ar_from(e, env, out, at),
-            Kind::EU => self.eu(e, env, out, at),
-            Kind::False => at,
+            Kind::Or => self.or(e, env, sheet),
+            Kind::AX => self.ax(e, env, sheet),
+            Kind::EX => self.ex(e, env, sheet),
+            Kind::AF => self.af_from(e, env, sheet),
+            Kind::EG => self.eg(e, env, sheet),
+            Kind::AR => self.ar_from(e, env, sheet),
+            Kind::EU => self.eu(e, env, sheet),
+            Kind::False => {}
         }
     }
 
     // Or: left if it holds, else right.
     #[cycle(af_af_from_af_step_ar_ar_from_ax_eg_eu_ex_formula_or)]
-    fn or(&self, e: u8, env: Env, out: &mut [u8], at: usize) -> usize
-        requires { InHand self.now.setup.image.now self.now.setup.table.now self.now.side e env Or × (at ≤ length out.old) }
-        ensures { Wrote self.now.writing (entry_steps self.now.setup.image.now self.now.setup.table.now self.now.side e (env_of env)) at out.old out.new result }
+    fn or(&self, e: u8, env: Env, sheet: &mut Sheet<'_>)
+        requires { InHand self.now.setup.image.now self.now.setup.table.now self.now.side e env Or }
+        ensures wrote { Wrote self.now.writing (entry_steps self.now.setup.image.now self.now.setup.table.now self.now.side e (env_of env))
+            sheet.old.at sheet.old.out.now sheet.new.out.now sheet.new.at }
+        ensures same { sheet.new.out.ghost_name ≡ sheet.old.out.ghost_name }
     {
         let f = self.entries[e as usize];
         if sides::holds_on(&self.setup, self.side, f.a, env) {
-            let on = self.rule(Rule::OrLeft, out, at);
-            self.formula(f.a, env, out, on)
+            self.rule(Rule::OrLeft, sheet);
+            self.formula(f.a, env, sheet)
         } else {
-            let on = self.rule(Rule::OrRight, out, at);
-            self.formula(f.b, env, out, on)
+            self.rule(Rule::OrRight, sheet);
+            self.formula(f.b, env, sheet)
         }
     }
 
     // AX: a at each successor, ascending.
     #[cycle(af_af_from_af_step_ar_ar_from_ax_eg_eu_ex_formula_or)]
-    fn ax(&self, e: u8, env: Env, out: &mut [u8], at: usize) -> usize
-        requires { InHand self.now.setup.image.now self.now.setup.table.now self.now.side e env AX × (at ≤ length out.old) }
-        ensures { Wrote self.now.writing (entry_steps self.now.setup.image.now self.now.setup.table.now self.now.side e (env_of env)) at out.old out.new result }
+    fn ax(&self, e: u8, env: Env, sheet: &mut Sheet<'_>)
+        requires { InHand self.now.setup.image.now self.now.setup.table.now self.now.side e env AX }
+        ensures wrote { Wrote self.now.writing (entry_steps self.now.setup.image.now self.now.setup.table.now self.now.side e (env_of env))
+            sheet.old.at sheet.old.out.now sheet.new.out.now sheet.new.at }
+        ensures same { sheet.new.out.ghost_name ≡ sheet.old.out.ghost_name }
     {
         let f = self.entries[e as usize];
         let there = sets::row::load(self.setup.next, env::stage_of(f.t, env) as usize);
-        let mut here = self.rule(Rule::Ax, out, at);
+        self.rule(Rule::Ax, sheet);
         for t in there.stages() {
-            here = self.formula(f.a, env.bound(f.x, t as u8), out, here);
+            self.formula(f.a, env.bound(f.x, t as u8), sheet);
         }
-        here
     }
 
     // EX: a at the lowest successor at which it holds.
     #[cycle(af_af_from_af_step_ar_ar_from_ax_eg_eu_ex_formula_or)]
-    fn ex(&self, e: u8, env: Env, out: &mut [u8], at: usize) -> usize
-        requires { InHand self.now.setup.image.now self.now.setup.table.now self.now.side e env EX × (at ≤ length out.old) }
-        ensures { Wrote self.now.writing (entry_steps self.now.setup.image.now self.now.setup.table.now self.now.side e (env_of env)) at out.old out.new result }
+    fn ex(&self, e: u8, env: Env, sheet: &mut Sheet<'_>)
+        requires { InHand self.now.setup.image.now self.now.setup.table.now self.now.side e env EX }
+        ensures wrote { Wrote self.now.writing (entry_steps self.now.setup.image.now self.now.setup.table.now self.now.side e (env_of env))
+            sheet.old.at sheet.old.out.now sheet.new.out.now sheet.new.at }
+        ensures same { sheet.new.out.ghost_name ≡ sheet.old.out.ghost_name }
     {
         let f = self.entries[e as usize];
         let a = Operand {
@@ -97,16 +106,18 @@ impl Run<'_> {
             variable: f.x,
         };
         let c = guide::ex(&self.setup, self.side, a, env, env::stage_of(f.t, env));
-        let on = self.rule(Rule::Ex(c), out, at);
-        let chosen = self.put(c, out, on);
-        self.formula(f.a, env.bound(f.x, c), out, chosen)
+        self.rule(Rule::Ex(c), sheet);
+        self.put(c, sheet);
+        self.formula(f.a, env.bound(f.x, c), sheet)
     }
 
     // AF, from the start of its walk: it goes now where a holds. No length is known yet.
     #[cycle(af_af_from_af_step_ar_ar_from_ax_eg_eu_ex_formula_or)]
-    fn af_from(&self, e: u8, env: Env, out: &mut [u8], at: usize) -> usize
-        requires { InHand self.now.setup.image.now self.now.setup.table.now self.now.side e env AF × (at ≤ length out.old) }
-        ensures { Wrote self.now.writing (entry_steps self.now.setup.image.now self.now.setup.table.now self.now.side e (env_of env)) at out.old out.new result }
+    fn af_from(&self, e: u8, env: Env, sheet: &mut Sheet<'_>)
+        requires { InHand self.now.setup.image.now self.now.setup.table.now self.now.side e env AF }
+        ensures wrote { Wrote self.now.writing (entry_steps self.now.setup.image.now self.now.setup.table.now self.now.side e (env_of env))
+            sheet.old.at sheet.old.out.now sheet.new.out.now sheet.new.at }
+        ensures same { sheet.new.out.ghost_name ≡ sheet.old.out.ghost_name }
     {
         let f = self.entries[e as usize];
         let a = Operand {
@@ -116,7 +127,7 @@ impl Run<'_> {
         let stop = sides::where_on(&self.setup, self.side, a, env);
         let s = env::stage_of(f.t, env);
         let mut lens = [0u64; sets::WIDTH];
-        self.af(e, env, stop, s, self.setup.stages + 1, &mut lens, out, at)
+        self.af(e, env, stop, s, self.setup.stages + 1, &mut lens, sheet)
     }
 
     // AF at a stage. Its steps there are the same however it is come to, so while they are only counted their length is worked out once and noted. A length
@@ -130,31 +141,35 @@ impl Run<'_> {
         s: u8,
         left: usize,
         lens: &mut [u64; sets::WIDTH],
-        out: &mut [u8],
-        at: usize,
-    ) -> usize
+        sheet: &mut Sheet<'_>,
+    )
         requires { AfAt self.now.setup.image.now self.now.setup.table.now self.now.side e env (number stop) s left lens.old }
-        ensures { Wrote self.now.writing (af_steps self.now.setup.image.now self.now.setup.table.now self.now.side e (env_of env) s) at out.old out.new result
-            × Noted self.now.setup.image.now self.now.setup.table.now self.now.side e (env_of env) lens.new }
+        ensures wrote { Wrote self.now.writing (af_steps self.now.setup.image.now self.now.setup.table.now self.now.side e (env_of env) s)
+            sheet.old.at sheet.old.out.now sheet.new.out.now sheet.new.at }
+        ensures same { sheet.new.out.ghost_name ≡ sheet.old.out.ghost_name }
+        ensures noted { Noted self.now.setup.image.now self.now.setup.table.now self.now.side e (env_of env) lens.new }
     {
-        if out.len() < at {
-            return out.len() + 1;
+        if sheet.out.len() < sheet.at {
+            sheet.at = sheet.out.len() + 1;
+            return;
         }
         let i = s as usize;
         if !self.writing {
             let known = lens[i] as usize;
             if 0 < known {
-                if out.len() - at < known {
-                    return out.len() + 1;
+                if sheet.out.len() - sheet.at < known {
+                    sheet.at = sheet.out.len() + 1;
+                } else {
+                    sheet.at += known;
                 }
-                return at + known;
+                return;
             }
         }
-        let end = self.af_step(e, env, stop, s, left, lens, out, at);
-        if end <= out.len() {
-            lens[i] = (end - at) as u64;
+        let begun = sheet.at;
+        self.af_step(e, env, stop, s, left, lens, sheet);
+        if sheet.at <= sheet.out.len() {
+            lens[i] = (sheet.at - begun) as u64;
         }
-        end
     }
 
     // One step of AF: now, or at each successor, ascending.
@@ -167,31 +182,34 @@ impl Run<'_> {
         s: u8,
         left: usize,
         lens: &mut [u64; sets::WIDTH],
-        out: &mut [u8],
-        at: usize,
-    ) -> usize
-        requires { AfAt self.now.setup.image.now self.now.setup.table.now self.now.side e env (number stop) s left lens.old × (at ≤ length out.old) }
-        ensures { Wrote self.now.writing (af_steps self.now.setup.image.now self.now.setup.table.now self.now.side e (env_of env) s) at out.old out.new result
-            × Noted self.now.setup.image.now self.now.setup.table.now self.now.side e (env_of env) lens.new }
+        sheet: &mut Sheet<'_>,
+    )
+        requires { AfAt self.now.setup.image.now self.now.setup.table.now self.now.side e env (number stop) s left lens.old
+            × (sheet.old.at ≤ length sheet.old.out.now) }
+        ensures wrote { Wrote self.now.writing (af_steps self.now.setup.image.now self.now.setup.table.now self.now.side e (env_of env) s)
+            sheet.old.at sheet.old.out.now sheet.new.out.now sheet.new.at }
+        ensures same { sheet.new.out.ghost_name ≡ sheet.old.out.ghost_name }
+        ensures noted { Noted self.now.setup.image.now self.now.setup.table.now self.now.side e (env_of env) lens.new }
     {
         if stop.has(s as usize) {
             let f = self.entries[e as usize];
-            let on = self.rule(Rule::AfNow, out, at);
-            return self.formula(f.a, env.bound(f.x, s), out, on);
+            self.rule(Rule::AfNow, sheet);
+            return self.formula(f.a, env.bound(f.x, s), sheet);
         }
-        let mut here = self.rule(Rule::AfLater, out, at);
+        self.rule(Rule::AfLater, sheet);
         let there = sets::row::load(self.setup.next, s as usize);
         for t in there.stages() {
-            here = self.af(e, env, stop, t as u8, left - 1, lens, out, here);
+            self.af(e, env, stop, t as u8, left - 1, lens, sheet);
         }
-        here
     }
 
     // EG: a at each stage of a walk, which goes on at the lowest successor at which EG holds, until it merges.
     #[cycle(af_af_from_af_step_ar_ar_from_ax_eg_eu_ex_formula_or)]
-    fn eg(&self, e: u8, env: Env, out: &mut [u8], at: usize) -> usize
-        requires { InHand self.now.setup.image.now self.now.setup.table.now self.now.side e env EG × (at ≤ length out.old) }
-        ensures { Wrote self.now.writing (entry_steps self.now.setup.image.now self.now.setup.table.now self.now.side e (env_of env)) at out.old out.new result }
+    fn eg(&self, e: u8, env: Env, sheet: &mut Sheet<'_>)
+        requires { InHand self.now.setup.image.now self.now.setup.table.now self.now.side e env EG × (sheet.old.at ≤ length sheet.old.out.now) }
+        ensures wrote { Wrote self.now.writing (entry_steps self.now.setup.image.now self.now.setup.table.now self.now.side e (env_of env))
+            sheet.old.at sheet.old.out.now sheet.new.out.now sheet.new.at }
+        ensures same { sheet.new.out.ghost_name ≡ sheet.old.out.ghost_name }
     {
         let f = self.entries[e as usize];
         let a = Operand {
@@ -202,26 +220,26 @@ impl Run<'_> {
         guide::eg(&self.setup, self.side, a, env, &mut toward);
         let mut walk = Set::empty();
         let mut s = env::stage_of(f.t, env);
-        let mut here = at;
         for _ in 0..self.setup.stages + 1 {
             if walk.has(s as usize) {
-                return self.rule(Rule::EgMerge, out, here);
+                return self.rule(Rule::EgMerge, sheet);
             }
             let c = toward[s as usize];
-            let on = self.rule(Rule::EgOn(c), out, here);
-            let chosen = self.put(c, out, on);
-            here = self.formula(f.a, env.bound(f.x, s), out, chosen);
+            self.rule(Rule::EgOn(c), sheet);
+            self.put(c, sheet);
+            self.formula(f.a, env.bound(f.x, s), sheet);
             walk = walk.with(s as usize);
             s = c;
         }
-        here
     }
 
     // AR, from the start of its walk: it is released where a holds.
     #[cycle(af_af_from_af_step_ar_ar_from_ax_eg_eu_ex_formula_or)]
-    fn ar_from(&self, e: u8, env: Env, out: &mut [u8], at: usize) -> usize
-        requires { InHand self.now.setup.image.now self.now.setup.table.now self.now.side e env AR × (at ≤ length out.old) }
-        ensures { Wrote self.now.writing (entry_steps self.now.setup.image.now self.now.setup.table.now self.now.side e (env_of env)) at out.old out.new result }
+    fn ar_from(&self, e: u8, env: Env, sheet: &mut Sheet<'_>)
+        requires { InHand self.now.setup.image.now self.now.setup.table.now self.now.side e env AR }
+        ensures wrote { Wrote self.now.writing (entry_steps self.now.setup.image.now self.now.setup.table.now self.now.side e (env_of env))
+            sheet.old.at sheet.old.out.now sheet.new.out.now sheet.new.at }
+        ensures same { sheet.new.out.ghost_name ≡ sheet.old.out.ghost_name }
     {
         let f = self.entries[e as usize];
         let a = Operand {
@@ -230,65 +248,50 @@ impl Run<'_> {
         };
         let stop = sides::where_on(&self.setup, self.side, a, env);
         let s = env::stage_of(f.t, env);
-        self.ar(
-            e,
-            env,
-            stop,
-            Set::empty(),
-            s,
-            self.setup.stages + 1,
-            out,
-            at,
-        )
+        self.ar(e, env, stop, Set::empty(), s, self.setup.stages + 1, sheet)
     }
 
     // AR at a stage of its walk: merge, release, or b here and AR at each successor, ascending.
     #[cycle(af_af_from_af_step_ar_ar_from_ax_eg_eu_ex_formula_or)]
-    fn ar(
-        &self,
-        e: u8,
-        env: Env,
-        stop: Set,
-        walk: Set,
-        s: u8,
-        left: usize,
-        out: &mut [u8],
-        at: usize,
-    ) -> usize
+    fn ar(&self, e: u8, env: Env, stop: Set, walk: Set, s: u8, left: usize, sheet: &mut Sheet<'_>)
         requires { ArAt self.now.setup.image.now self.now.setup.table.now self.now.side e env (number stop) s left }
-        ensures { Wrote self.now.writing (two_steps self.now.setup.image.now self.now.setup.table.now self.now.side rule.Kind.AR e (env_of env) left (walk_of (number walk)) s)
-            at out.old out.new result }
+        ensures wrote { Wrote self.now.writing
+            (two_steps self.now.setup.image.now self.now.setup.table.now self.now.side rule.Kind.AR e (env_of env) left (walk_of (number walk)) s)
+            sheet.old.at sheet.old.out.now sheet.new.out.now sheet.new.at }
+        ensures same { sheet.new.out.ghost_name ≡ sheet.old.out.ghost_name }
     {
-        if out.len() < at {
-            return out.len() + 1;
+        if sheet.out.len() < sheet.at {
+            sheet.at = sheet.out.len() + 1;
+            return;
         }
         if left == 0 {
-            return at;
+            return;
         }
         if walk.has(s as usize) {
-            return self.rule(Rule::ArMerge, out, at);
+            return self.rule(Rule::ArMerge, sheet);
         }
         let f = self.entries[e as usize];
         if stop.has(s as usize) {
-            let on = self.rule(Rule::ArRelease, out, at);
-            let a = self.formula(f.a, env.bound(f.x, s), out, on);
-            return self.formula(f.b, env.bound(f.y, s), out, a);
+            self.rule(Rule::ArRelease, sheet);
+            self.formula(f.a, env.bound(f.x, s), sheet);
+            return self.formula(f.b, env.bound(f.y, s), sheet);
         }
-        let on = self.rule(Rule::ArOn, out, at);
-        let mut here = self.formula(f.b, env.bound(f.y, s), out, on);
+        self.rule(Rule::ArOn, sheet);
+        self.formula(f.b, env.bound(f.y, s), sheet);
         let longer = walk.with(s as usize);
         let there = sets::row::load(self.setup.next, s as usize);
         for t in there.stages() {
-            here = self.ar(e, env, stop, longer, t as u8, left - 1, out, here);
+            self.ar(e, env, stop, longer, t as u8, left - 1, sheet);
         }
-        here
     }
 
     // EU: a at each stage of a walk, which goes on at the successor fewest steps from a now, and there b.
     #[cycle(af_af_from_af_step_ar_ar_from_ax_eg_eu_ex_formula_or)]
-    fn eu(&self, e: u8, env: Env, out: &mut [u8], at: usize) -> usize
-        requires { InHand self.now.setup.image.now self.now.setup.table.now self.now.side e env EU × (at ≤ length out.old) }
-        ensures { Wrote self.now.writing (entry_steps self.now.setup.image.now self.now.setup.table.now self.now.side e (env_of env)) at out.old out.new result }
+    fn eu(&self, e: u8, env: Env, sheet: &mut Sheet<'_>)
+        requires { InHand self.now.setup.image.now self.now.setup.table.now self.now.side e env EU × (sheet.old.at ≤ length sheet.old.out.now) }
+        ensures wrote { Wrote self.now.writing (entry_steps self.now.setup.image.now self.now.setup.table.now self.now.side e (env_of env))
+            sheet.old.at sheet.old.out.now sheet.new.out.now sheet.new.at }
+        ensures same { sheet.new.out.ghost_name ≡ sheet.old.out.ghost_name }
     {
         let f = self.entries[e as usize];
         let a = Operand {
@@ -302,18 +305,16 @@ impl Run<'_> {
         let mut toward = [0u8; sets::WIDTH];
         let now = guide::eu(&self.setup, self.side, a, b, env, &mut toward);
         let mut s = env::stage_of(f.t, env);
-        let mut here = at;
         for _ in 0..self.setup.stages + 1 {
             if now.has(s as usize) {
-                let on = self.rule(Rule::EuNow, out, here);
-                return self.formula(f.b, env.bound(f.y, s), out, on);
+                self.rule(Rule::EuNow, sheet);
+                return self.formula(f.b, env.bound(f.y, s), sheet);
             }
             let c = toward[s as usize];
-            let on = self.rule(Rule::EuLater(c), out, here);
-            let chosen = self.put(c, out, on);
-            here = self.formula(f.a, env.bound(f.x, s), out, chosen);
+            self.rule(Rule::EuLater(c), sheet);
+            self.put(c, sheet);
+            self.formula(f.a, env.bound(f.x, s), sheet);
             s = c;
         }
-        here
     }
 }

@@ -1,9 +1,10 @@
 -- The evaluation of an entry: what each arm of the code gives is what the test of the entry's formula says.
 --
---     ready-lower, ready-rule                                 what an evaluation goes by at a lower entry, and by which rules
+--     entry-ruled, ready-lower, ready-rule
+--                                                             what an evaluation goes by at a lower entry, and by which rules
 --     junction-first, junction-second, unary-operand, binary-first, binary-second
 --                                                             so that it can go on to an operand
---     constant-arm, literal-arm, junction-arm, settled-arm, modal-arm, none-arm
+--     constant-arm, literal-arm, junction-arm, settled-arm, modal-arm
 --                                                             the stages at which a formula holds, by the row of its kind
 --     modal-here                                              a modality holds where it does from the stage of its term
 --     unary-set, binary-set, no-set                           the stages from which a modality holds
@@ -24,7 +25,7 @@ use Rattle.logic.specs.Test.{Stages, test, Stand}
 use Rattle.sets.specs.Member.{Has}
 use Rattle.modal.specs.Row.{member, Computes}
 use Rattle.format.specs.Image.{stages_of, graph_of}
-use Rattle.format.specs.Table.{IsTerm, a_stage, a_variable, record_at, kind_of, sort_of, RuledAs, Ruled, term_of, atom_of, tree_of}
+use Rattle.format.specs.Table.{IsTerm, a_stage, a_variable, entries_of, record_at, kind_of, sort_of, RuledAs, Ruled, term_of, atom_of, tree_of}
 use Rattle.format.specs.declared.record.Record.{Record}
 use Rattle.format.specs.declared.record.Kind.{Kind}
 use Rattle.format.specs.declared.record.Sort.{Sort}
@@ -58,6 +59,10 @@ term-ruled S.Junction image e r some rule = a_stage (omega (arith, rule.t))
 term-ruled S.Unary image e r some rule = rule.t
 term-ruled S.Binary image e r some rule = rule.t
 
+-- An entry keeps its rules.
+pub entry-ruled : (setup : Setup) {e : ℕ} → e < entries_of setup.table.now → Ruled setup.image.now e (record_at setup.table.now e)
+entry-ruled setup {e} = all-ruled setup.image.now setup.table.now setup.ruled e
+
 module _ (setup : Setup) {e : ℕ} {env : Env} (ready : Ready setup.table.now setup.stages e env) where
   abbrev image : List ℕ
   image = setup.image.now
@@ -76,7 +81,7 @@ module _ (setup : Setup) {e : ℕ} {env : Env} (ready : Ready setup.table.now se
 
   -- The entry keeps its rules.
   pub ready-rule : Ruled image e (record_at table e)
-  ready-rule = all-ruled image table setup.ruled e ready.entry
+  ready-rule = entry-ruled setup ready.entry
 
   -- Its term stands at one of the stages.
   ready-term : {c : Environment} → Stand n c → value c (term_of (record_at table e).t) < n

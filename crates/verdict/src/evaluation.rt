@@ -3,8 +3,8 @@ ghost use Rattle.std.specs.Prelude.{◌<◌};
 ghost use Rattle.sets.specs.Number.{number};
 ghost use Rattle.verdict.specs.Evaluation.{Collects, Ready, held_at, modal_at, held_from};
 
+use crate::kinds;
 use crate::setup::Setup;
-use crate::{dependence, kinds};
 use format::record;
 use format::record::Sort;
 use hand::env;
@@ -43,7 +43,7 @@ impl Setup<'_> {
         requires { Ready self.now.table.now self.now.stages e env × (x < 4) }
         ensures { Collects self.now.stages (modal_at self.now.image.now self.now.table.now e env x) (number result) }
     {
-        if dependence::depends(self.image, self.table, e, x) {
+        if self.depends(e, x) {
             self.where_each(e, env, x)
         } else {
             let r = record::entry(self.table, e as usize);

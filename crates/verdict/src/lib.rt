@@ -53,15 +53,14 @@ fn goal_holds(image: &[u8], table: &[u8], q: Question) -> bool
     requires { QuestionRead image.now table.now q.goal q.start q }
     ensures { result ≡ goal_test image.now table.now q.goal q.start }
 {
-    let shape = q.shape;
-    let inner = shape.image;
+    let stages = q.shape.image.stages;
     let mut next = [Set::empty(); NEXT];
-    decode(image, inner.stages, &mut next);
+    decode(image, stages, &mut next);
     let setup = Setup {
         image,
         table,
         next: &next,
-        stages: inner.stages,
+        stages,
     };
     let env = Env {
         slots: [q.start, 0, 0, 0],

@@ -43,22 +43,21 @@ fn answered(image: &[u8], table: &[u8], q: Question, buffer: &mut [u8]) -> Resul
     requires { QuestionRead image.now table.now q.goal q.start q }
     ensures { WriteAnswer image.now table.now q.goal q.start buffer.old buffer.new result }
 {
-    let shape = q.shape;
-    let inner = shape.image;
+    let stages = q.shape.image.stages;
     let mut next = [Set::empty(); NEXT];
-    decode(image, inner.stages, &mut next);
+    decode(image, stages, &mut next);
     let setup = Setup {
         image,
         table,
         next: &next,
-        stages: inner.stages,
+        stages,
     };
     let env = Env {
         slots: [q.start, 0, 0, 0],
     };
     let side = side_of(&setup, q.goal, env);
     let mut entries = [Entry::default(); ENTRIES];
-    prepare(image, table, shape.entries, side, &mut entries);
+    prepare(image, table, q.shape.entries, side, &mut entries);
     let mut run = Run {
         setup,
         entries: &entries,

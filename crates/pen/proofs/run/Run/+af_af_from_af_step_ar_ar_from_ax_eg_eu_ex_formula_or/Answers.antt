@@ -18,6 +18,8 @@ use Rattle.pen.proofs.KindLaws.{is-not-steps, false-never, and_both, and-steps, 
 use Rattle.pen.proofs.KindLaws.{ex-steps}
 use Rattle.pen.proofs.WriterLaws.{start_is, start-below, ready_of, under, operand-wrote, stop-has, stop-lacks, next-all, walk-has, walk-lacks}
 use Rattle.pen.proofs.WriterLaws.{going_start, going_more, going_end, going_done, same-env, plain-wrote}
+use Rattle.pen.proofs.StepLaws.{noted_more}
+use Rattle.pen.proofs.WroteLaws.{wrote-length}
 use Rattle.pen.proofs.StepLaws.{collects-of, af-now-steps, af-later-steps, noted-new, two_ends, ar-begins, ar-merges}
 use Rattle.pen.proofs.StepLaws.{ar-releases, ar-goes, leads-of, nearest-of, eg-begins, eg-merges, eg-goes, one-ends, eu-begins, eu-stops, eu-goes, told-true}
 use Rattle.pen.proofs.StepLaws.{told-false, choice-of}
@@ -37,7 +39,7 @@ use Rattle.pen.proofs.run.Run.+af_af_from_af_step_ar_ar_from_ax_eg_eu_ex_formula
 pub af_from-where_on-stop-requires : goal.af_from-where_on-stop-requires
 af_from-where_on-stop-requires t c =
     let run = c.args.self.now in
-    let h = c.requires.0 in
+    let h = c.requires in
     let f = fields run h.holding refl in
     let rule = rule-of run h in
     ready_of run h.holding f.a rule.a
@@ -47,7 +49,7 @@ af_from-af-requires t c =
     let run = c.args.self.now in
     let e = c.args.e in
     let env = c.args.env in
-    let h = c.requires.0 in
+    let h = c.requires in
     let f = fields run h.holding refl in
     let rule = rule-of run h in
     let s-is = start_is run h.holding f c.stage_of-s.ensures in
@@ -64,18 +66,23 @@ af_from-af-requires t c =
       },
     )
 
-pub af_from-returns : goal.af_from-returns
-af_from-returns t c =
+pub af_from-returns-clause-wrote : goal.af_from-returns-clause-wrote
+af_from-returns-clause-wrote t c =
     let run = c.args.self.now in
-    let h = c.requires.0 in
+    let h = c.requires in
     let f = fields run h.holding refl in
     let s-is = start_is run h.holding f c.stage_of-s.ensures in
     wrote-same (ap (af_steps run.setup.image.now run.setup.table.now run.side c.args.e (env_of c.args.env)) s-is ∙ af-start run h)
-    c.af.ensures.0
+    c.af.ensures.wrote
 
-pub af-returns-then-out-at : goal.af-returns-then-out-at
-af-returns-then-out-at t c =
-    (wrote-past _ _ _ _ c.if-out-at.true, c.requires.noted)
+pub af-returns-then-sheet-clause-wrote : goal.af-returns-then-sheet-clause-wrote
+af-returns-then-sheet-clause-wrote t c = wrote-past _ _ _ _ c.if-sheet.true
+
+pub af-returns-then-sheet-2-clause-noted : goal.af-returns-then-sheet-2-clause-noted
+af-returns-then-sheet-2-clause-noted t c =
+    let run = c.args.self.now in
+    let step = c.af_step.ensures in
+    noted_more run c.args.e c.args.env _ step.noted step.wrote (omega (arith, c.if-sheet-2.true, wrote-length step.wrote))
 
 pub af_step-formula-requires : goal.af_step-formula-requires
 af_step-formula-requires t c =
@@ -89,20 +96,18 @@ af_step-formula-requires t c =
       under run h.holding f.a rule.a f.x (omega (arith, rule.x)) a.below c.bound.ensures now,
     )
 
-pub af_step-returns-then-has : goal.af_step-returns-then-has
-af_step-returns-then-has t c =
+pub af_step-returns-then-has-clause-wrote : goal.af_step-returns-then-has-clause-wrote
+af_step-returns-then-has-clause-wrote t c =
     let run = c.args.self.now in
     let a = c.requires.0 in
     let h = a.hand in
     let rule = rule-of run h in
     let f = fields run h.holding refl in
-    let now = stop-has a.stops a.below c.has.ensures c.if-has.true in (
-      wrote-same (af-now-steps run a now)
-          (wrote-both c.rule-on.ensures
-          (operand-wrote run f.a f.x (omega (arith, rule.x)) c.bound.ensures
-          c.formula.ensures)),
-      a.noted,
-    )
+    let now = stop-has a.stops a.below c.has.ensures c.if-has.true in
+    wrote-same (af-now-steps run a now)
+    (wrote-both c.rule.ensures.wrote
+    (operand-wrote run f.a f.x (omega (arith, rule.x)) c.bound.ensures
+    c.formula.ensures.wrote))
 
 pub af_step-loop-t-init : goal.af_step-loop-t-init
 af_step-loop-t-init t c =
@@ -110,13 +115,14 @@ af_step-loop-t-init t c =
     let a = c.requires.0 in
     let h = a.hand in
     let rule = rule-of run h in (
-      each_start (run-row run) a.below _ _ _ _ (wrote-place c.rule-here.ensures) (number_lt _ _ c.load-there.type_inv) (walk-begins c.into_iter-t-iterator.ensures.into_iter_gives c.stages-t-items.ensures)
+      each_start (run-row run) a.below _ _ _ _ (wrote-place c.rule-2.ensures.wrote) (number_lt _ _ c.load-there.type_inv) (walk-begins c.into_iter-t-iterator.ensures.into_iter_gives c.stages-t-items.ensures)
           (next-all run a.below c.load-there.ensures),
       a.noted,
+      refl,
     )
 
-pub af_step-af-here-requires : goal.af_step-af-here-requires
-af_step-af-here-requires t c =
+pub af_step-af-requires : goal.af_step-af-requires
+af_step-af-requires t c =
     let run = c.args.self.now in
     let a = c.requires.0 in
     let h = a.hand in
@@ -142,27 +148,25 @@ af_step-loop-t-preserved t c =
     let h = a.hand in
     let row = run-row run in
     let turn = c.in-Some.ensures.steps in
-    (turns-on row a.below _ _ _ _ c.loop-t.invariant.0 turn c.af-here.ensures.0, c.af-here.ensures.1)
+    (turns-on row a.below _ _ _ _ c.loop-t.invariant.0 turn c.af.ensures.wrote, c.af.ensures.noted, c.af.ensures.same ∙ c.loop-t.invariant.2)
 
-pub af_step-returns : goal.af_step-returns
-af_step-returns t c =
+pub af_step-returns-clause-wrote : goal.af_step-returns-clause-wrote
+af_step-returns-clause-wrote t c =
     let run = c.args.self.now in
     let a = c.requires.0 in
     let h = a.hand in
     let row = run-row run in
-    let not-now = stop-lacks a.stops a.below c.has.ensures c.if-has.false in (
-      wrote-same (af-later-steps run a not-now)
-          (wrote-both c.rule-here.ensures
-          (each-end row a.below _ _ _ _ c.loop-t.invariant.0 c.in-None.ensures.steps.0)),
-      c.loop-t.invariant.1,
-    )
+    let not-now = stop-lacks a.stops a.below c.has.ensures c.if-has.false in
+    wrote-same (af-later-steps run a not-now)
+    (wrote-both c.rule-2.ensures.wrote
+    (each-end row a.below _ _ _ _ c.loop-t.invariant.0 c.in-None.ensures.steps.0))
 
 -- ---- `ar_from` and `ar`: a walk of AR
 
 pub ar_from-where_on-stop-requires : goal.ar_from-where_on-stop-requires
 ar_from-where_on-stop-requires t c =
     let run = c.args.self.now in
-    let h = c.requires.0 in
+    let h = c.requires in
     let f = fields run h.holding refl in
     let rule = rule-of run h in
     ready_of run h.holding f.a rule.a
@@ -172,7 +176,7 @@ ar_from-ar-requires t c =
     let run = c.args.self.now in
     let e = c.args.e in
     let env = c.args.env in
-    let h = c.requires.0 in
+    let h = c.requires in
     let f = fields run h.holding refl in
     let rule = rule-of run h in
     let s-is = start_is run h.holding f c.stage_of-s.ensures in
@@ -188,32 +192,32 @@ ar_from-ar-requires t c =
       },
     )
 
-pub ar_from-returns : goal.ar_from-returns
-ar_from-returns t c =
+pub ar_from-returns-clause-wrote : goal.ar_from-returns-clause-wrote
+ar_from-returns-clause-wrote t c =
     let run = c.args.self.now in
-    let h = c.requires.0 in
+    let h = c.requires in
     let f = fields run h.holding refl in
     let s-is = start_is run h.holding f c.stage_of-s.ensures in
-    wrote-same (ar-begins run h (omega (arith, run-stages run)) c.empty.ensures s-is) c.ar.ensures
+    wrote-same (ar-begins run h (omega (arith, run-stages run)) c.empty.ensures s-is) c.ar.ensures.wrote
 
-pub ar-returns-then-out-at : goal.ar-returns-then-out-at
-ar-returns-then-out-at t c = wrote-past _ _ _ _ c.if-out-at.true
+pub ar-returns-then-sheet-clause-wrote : goal.ar-returns-then-sheet-clause-wrote
+ar-returns-then-sheet-clause-wrote t c = wrote-past _ _ _ _ c.if-sheet.true
 
-pub ar-returns-then-left-eq0 : goal.ar-returns-then-left-eq0
-ar-returns-then-left-eq0 t c =
+pub ar-returns-then-left-eq0-clause-wrote : goal.ar-returns-then-left-eq0-clause-wrote
+ar-returns-then-left-eq0-clause-wrote t c =
     let run = c.args.self.now in
     wrote-same (sym (two_ends run c.args.e c.args.env Kind.AR _ _ c.if-left-eq0.true)) (wrote_none _ _ _
-    (omega (arith, c.if-out-at.false)))
+    (omega (arith, c.if-sheet.false)))
 
-pub ar-returns-then-has : goal.ar-returns-then-has
-ar-returns-then-has t c =
+pub ar-returns-then-has-clause-wrote : goal.ar-returns-then-has-clause-wrote
+ar-returns-then-has-clause-wrote t c =
     let run = c.args.self.now in
     let more : c.args.left ≡ suc (c.args.left - 1) = omega (arith, c.if-left-eq0.false) in
     wrote-same (ar-merges run c.args.e c.args.env _ _ more (walk-has _ _
-    c.has.ensures c.if-has.true)) c.rule.ensures
+    c.has.ensures c.if-has.true)) c.rule.ensures.wrote
 
-pub ar-formula-a-requires : goal.ar-formula-a-requires
-ar-formula-a-requires t c =
+pub ar-formula-requires : goal.ar-formula-requires
+ar-formula-requires t c =
     let run = c.args.self.now in
     let a = c.requires in
     let h = a.hand in
@@ -224,8 +228,8 @@ ar-formula-a-requires t c =
       under run h.holding f.a rule.a f.x (omega (arith, rule.x)) a.below c.bound.ensures released,
     )
 
-pub ar-formula-requires : goal.ar-formula-requires
-ar-formula-requires t c =
+pub ar-formula-requires-then-has-2 : goal.ar-formula-requires-then-has-2
+ar-formula-requires-then-has-2 t c =
     let run = c.args.self.now in
     let e = c.args.e in
     let env = c.args.env in
@@ -239,8 +243,8 @@ ar-formula-requires t c =
       under run h.holding f.b rule.b f.y (omega (arith, rule.y)) a.below c.bound-then-has-2.ensures b_here,
     )
 
-pub ar-returns-then-has-2 : goal.ar-returns-then-has-2
-ar-returns-then-has-2 t c =
+pub ar-returns-then-has-2-clause-wrote : goal.ar-returns-then-has-2-clause-wrote
+ar-returns-then-has-2-clause-wrote t c =
     let run = c.args.self.now in
     let more : c.args.left ≡ suc (c.args.left - 1) = omega (arith, c.if-left-eq0.false) in
     let e = c.args.e in
@@ -251,12 +255,12 @@ ar-returns-then-has-2 t c =
     let rule = rule-of run h in
     let released = stop-has a.stops a.below c.has-2.ensures c.if-has-2.true in
     wrote-same (ar-releases run e env _ _ more (walk-lacks _ _ c.has.ensures c.if-has.false) released)
-    (wrote-both c.rule-on.ensures
-    (wrote-both (operand-wrote run f.a f.x (omega (arith, rule.x)) c.bound.ensures c.formula-a.ensures)
-    (operand-wrote run f.b f.y (omega (arith, rule.y)) c.bound-then-has-2.ensures c.formula.ensures)))
+    (wrote-both c.rule-then-has-2.ensures.wrote
+    (wrote-both (operand-wrote run f.a f.x (omega (arith, rule.x)) c.bound.ensures c.formula.ensures.wrote)
+    (operand-wrote run f.b f.y (omega (arith, rule.y)) c.bound-then-has-2.ensures c.formula-then-has-2.ensures.wrote)))
 
-pub ar-formula-here-requires : goal.ar-formula-here-requires
-ar-formula-here-requires t c =
+pub ar-formula-requires-2 : goal.ar-formula-requires-2
+ar-formula-requires-2 t c =
     let run = c.args.self.now in
     let e = c.args.e in
     let env = c.args.env in
@@ -274,12 +278,14 @@ pub ar-loop-t-init : goal.ar-loop-t-init
 ar-loop-t-init t c =
     let run = c.args.self.now in
     let a = c.requires in
-    let h = a.hand in
-    each_start (run-row run) a.below _ _ _ _ (wrote-place c.formula-here.ensures) (number_lt _ _ c.load-there.type_inv) (walk-begins c.into_iter-t-iterator.ensures.into_iter_gives c.stages-t-items.ensures)
-    (next-all run a.below c.load-there.ensures)
+    let h = a.hand in (
+      each_start (run-row run) a.below _ _ _ _ (wrote-place c.formula-2.ensures.wrote) (number_lt _ _ c.load-there.type_inv) (walk-begins c.into_iter-t-iterator.ensures.into_iter_gives c.stages-t-items.ensures)
+          (next-all run a.below c.load-there.ensures),
+      refl,
+    )
 
-pub ar-ar-here-requires : goal.ar-ar-here-requires
-ar-ar-here-requires t c =
+pub ar-ar-requires : goal.ar-ar-requires
+ar-ar-requires t c =
     let run = c.args.self.now in
     let e = c.args.e in
     let env = c.args.env in
@@ -288,12 +294,12 @@ ar-ar-here-requires t c =
     let row = run-row run in
     let on = stop-lacks a.stops a.below c.has-2.ensures c.if-has-2.false in
     let turn = c.in-Some.ensures.steps in
-    let edge = each-edge row a.below _ _ _ _ c.loop-t.invariant turn in (
+    let edge = each-edge row a.below _ _ _ _ c.loop-t.invariant.0 turn in (
       omega (arith, c.decreases, c.if-left-eq0.false),
       record {
         hand = h;
         stops = a.stops;
-        below = each-stage row a.below _ _ _ _ c.loop-t.invariant turn;
+        below = each-stage row a.below _ _ _ _ c.loop-t.invariant.0 turn;
         holds = ar-there (run-readable run) (run-a run e env).holds (run-b run e env).holds _ a.below
             a.holds on _ edge;
         fuel = omega (arith, a.fuel);
@@ -307,10 +313,10 @@ ar-loop-t-preserved t c =
     let h = a.hand in
     let row = run-row run in
     let turn = c.in-Some.ensures.steps in
-    turns-on row a.below _ _ _ _ c.loop-t.invariant turn c.ar-here.ensures
+    (turns-on row a.below _ _ _ _ c.loop-t.invariant.0 turn c.ar.ensures.wrote, c.ar.ensures.same ∙ c.loop-t.invariant.1)
 
-pub ar-returns : goal.ar-returns
-ar-returns t c =
+pub ar-returns-clause-wrote : goal.ar-returns-clause-wrote
+ar-returns-clause-wrote t c =
     let run = c.args.self.now in
     let more : c.args.left ≡ suc (c.args.left - 1) = omega (arith, c.if-left-eq0.false) in
     let e = c.args.e in
@@ -323,9 +329,9 @@ ar-returns t c =
     let on = stop-lacks a.stops a.below c.has-2.ensures c.if-has-2.false in
     wrote-same (ar-goes run e env _ _ more (omega (arith, a.below, row.room)) (walk-lacks _ _ c.has.ensures
     c.if-has.false) c.with-longer.ensures on)
-    (wrote-both c.rule-on-2.ensures
-    (wrote-both (operand-wrote run f.b f.y (omega (arith, rule.y)) c.bound-2.ensures c.formula-here.ensures)
-    (each-end row a.below _ _ _ _ c.loop-t.invariant c.in-None.ensures.steps.0)))
+    (wrote-both c.rule-2.ensures.wrote
+    (wrote-both (operand-wrote run f.b f.y (omega (arith, rule.y)) c.bound-2.ensures c.formula-2.ensures.wrote)
+    (each-end row a.below _ _ _ _ c.loop-t.invariant.0 c.in-None.ensures.steps.0)))
 
 -- ---- `eg` and `eu`: walks that go on at a chosen successor, in a loop
 
@@ -350,34 +356,36 @@ eg-loop-init t c =
     let f = fields run h.holding refl in
     let rule = rule-of run h in
     let s-is = start_is run h.holding f c.stage_of-s.ensures in
-    let below = start-below run h.holding rule.t in
-    record {
-      going = going_start (eg-begins run h (omega (arith, run-stages run)) c.empty-walk.ensures s-is) (omega (arith, c.requires.1));
-      below = omega (arith, s-is, below);
-      holds = subst (λ (s : ℕ). T (Test.eg (graph_of run.setup.image.now) (run-a run c.args.e c.args.env).holds s)) (sym s-is)
-          (eg-from run h);
-    }
+    let below = start-below run h.holding rule.t in (
+      record {
+        going = going_start (eg-begins run h (omega (arith, run-stages run)) c.empty-walk.ensures s-is) (omega (arith, c.requires.1));
+        below = omega (arith, s-is, below);
+        holds = subst (λ (s : ℕ). T (Test.eg (graph_of run.setup.image.now) (run-a run c.args.e c.args.env).holds s)) (sym s-is)
+            (eg-from run h);
+      },
+      refl,
+    )
 
-pub eg-returns-then-has : goal.eg-returns-then-has
-eg-returns-then-has t c =
+pub eg-returns-then-has-clause-wrote : goal.eg-returns-then-has-clause-wrote
+eg-returns-then-has-clause-wrote t c =
     let run = c.args.self.now in
     let more : run.setup.stages + 1 - c.loop.counter ≡ suc (run.setup.stages + 1 - (c.loop.counter + 1)) = omega (arith, c.loop-test.true) in
-    going_end c.loop.invariant.going (wrote-same (eg-merges run c.args.e c.args.env _ _ more
+    going_end c.loop.invariant.0.going (wrote-same (eg-merges run c.args.e c.args.env _ _ more
     (walk-has _ _ c.has.ensures c.if-has.true))
-    c.rule.ensures)
+    c.rule.ensures.wrote)
 
-pub eg-formula-here-requires : goal.eg-formula-here-requires
-eg-formula-here-requires t c =
+pub eg-formula-requires : goal.eg-formula-requires
+eg-formula-requires t c =
     let run = c.args.self.now in
     let env = c.args.env in
     let h = c.requires.0 in
     let f = fields run h.holding refl in
     let rule = rule-of run h in
-    let c-is = leads-of run env f.a f.x c.loop.invariant.below c.eg.ensures in
+    let c-is = leads-of run env f.a f.x c.loop.invariant.0.below c.eg.ensures in
     let on = eg-holds (run-readable run)
-    (run-a run c.args.e env).holds _ c.loop.invariant.below c-is c.loop.invariant.holds in (
+    (run-a run c.args.e env).holds _ c.loop.invariant.0.below c-is c.loop.invariant.0.holds in (
       omega (arith, c.decreases, f.a, rule.a),
-      under run h.holding f.a rule.a f.x (omega (arith, rule.x)) c.loop.invariant.below c.bound.ensures on.0,
+      under run h.holding f.a rule.a f.x (omega (arith, rule.x)) c.loop.invariant.0.below c.bound.ensures on.0,
     )
 
 pub eg-loop-preserved : goal.eg-loop-preserved
@@ -389,23 +397,25 @@ eg-loop-preserved t c =
     let h = c.requires.0 in
     let f = fields run h.holding refl in
     let rule = rule-of run h in
-    let c-is = leads-of run env f.a f.x c.loop.invariant.below c.eg.ensures in
-    let on = eg-holds (run-readable run) (run-a run e env).holds _ c.loop.invariant.below c-is c.loop.invariant.holds in
-    record {
-      going = going_more c.loop.invariant.going
-          (eg-goes run e env _ _ more (omega (arith, c.loop.invariant.below, (run-row run).room))
-          (walk-lacks _ _
-          c.has.ensures c.if-has.false) c.with-walk.ensures c-is)
-          (wrote-both c.rule-on.ensures
-          (wrote-both c.put-chosen.ensures (operand-wrote run f.a f.x (omega (arith, rule.x)) c.bound.ensures c.formula-here.ensures)));
-      below = on.1.0;
-      holds = on.1.1;
-    }
+    let c-is = leads-of run env f.a f.x c.loop.invariant.0.below c.eg.ensures in
+    let on = eg-holds (run-readable run) (run-a run e env).holds _ c.loop.invariant.0.below c-is c.loop.invariant.0.holds in (
+      record {
+        going = going_more c.loop.invariant.0.going
+            (eg-goes run e env _ _ more (omega (arith, c.loop.invariant.0.below, (run-row run).room))
+            (walk-lacks _ _
+            c.has.ensures c.if-has.false) c.with-walk.ensures c-is)
+            (wrote-both c.rule-in-loop.ensures.wrote
+            (wrote-both c.put.ensures.wrote (operand-wrote run f.a f.x (omega (arith, rule.x)) c.bound.ensures c.formula.ensures.wrote)));
+        below = on.1.0;
+        holds = on.1.1;
+      },
+      c.formula.ensures.same ∙ c.put.ensures.same ∙ c.rule-in-loop.ensures.same ∙ c.loop.invariant.1,
+    )
 
-pub eg-returns : goal.eg-returns
-eg-returns t c =
+pub eg-returns-clause-wrote : goal.eg-returns-clause-wrote
+eg-returns-clause-wrote t c =
     let run = c.args.self.now in
-    going_done c.loop.invariant.going (one-ends run c.args.e c.args.env Kind.EG _ _ (omega
+    going_done c.loop.invariant.0.going (one-ends run c.args.e c.args.env Kind.EG _ _ (omega
     (arith, c.loop-test.false)))
 
 pub eu-eu-now-requires : goal.eu-eu-now-requires
@@ -425,14 +435,16 @@ eu-loop-init t c =
     let f = fields run h.holding refl in
     let rule = rule-of run h in
     let s-is = start_is run h.holding f c.stage_of-s.ensures in
-    let below = start-below run h.holding rule.t in
-    record {
-      walk = empty;
-      going = going_start (eu-begins run h (omega (arith, run-stages run)) s-is) (omega (arith, c.requires.1));
-      below = omega (arith, s-is, below);
-      holds = subst (λ (s : ℕ). T (Test.eu (graph_of run.setup.image.now) (run-a run e env).holds (run-b run e env).holds s))
-          (sym s-is) (eu-from run h);
-    }
+    let below = start-below run h.holding rule.t in (
+      record {
+        walk = empty;
+        going = going_start (eu-begins run h (omega (arith, run-stages run)) s-is) (omega (arith, c.requires.1));
+        below = omega (arith, s-is, below);
+        holds = subst (λ (s : ℕ). T (Test.eu (graph_of run.setup.image.now) (run-a run e env).holds (run-b run e env).holds s))
+            (sym s-is) (eu-from run h);
+      },
+      refl,
+    )
 
 pub eu-formula-requires : goal.eu-formula-requires
 eu-formula-requires t c =
@@ -442,12 +454,12 @@ eu-formula-requires t c =
     let rule = rule-of run h in
     let nows = collects-of run c.args.env f.b f.y c.eu-now.ensures.nows in (
       omega (arith, c.decreases, f.b, rule.b),
-      under run h.holding f.b rule.b f.y (omega (arith, rule.y)) c.loop.invariant.below c.bound.ensures
-          (stop-has nows c.loop.invariant.below c.has.ensures c.if-has.true),
+      under run h.holding f.b rule.b f.y (omega (arith, rule.y)) c.loop.invariant.0.below c.bound.ensures
+          (stop-has nows c.loop.invariant.0.below c.has.ensures c.if-has.true),
     )
 
-pub eu-returns-then-has : goal.eu-returns-then-has
-eu-returns-then-has t c =
+pub eu-returns-then-has-clause-wrote : goal.eu-returns-then-has-clause-wrote
+eu-returns-then-has-clause-wrote t c =
     let run = c.args.self.now in
     let more : run.setup.stages + 1 - c.loop.counter ≡ suc (run.setup.stages + 1 - (c.loop.counter + 1)) = omega (arith, c.loop-test.true) in
     let env = c.args.env in
@@ -455,13 +467,13 @@ eu-returns-then-has t c =
     let f = fields run h.holding refl in
     let rule = rule-of run h in
     let nows = collects-of run env f.b f.y c.eu-now.ensures.nows in
-    going_end c.loop.invariant.going (wrote-same (eu-stops run c.args.e env _ more c.loop.invariant.walk
-    (stop-has nows c.loop.invariant.below c.has.ensures c.if-has.true))
-    (wrote-both c.rule-on.ensures
-    (operand-wrote run f.b f.y (omega (arith, rule.y)) c.bound.ensures c.formula.ensures)))
+    going_end c.loop.invariant.0.going (wrote-same (eu-stops run c.args.e env _ more c.loop.invariant.0.walk
+    (stop-has nows c.loop.invariant.0.below c.has.ensures c.if-has.true))
+    (wrote-both c.rule.ensures.wrote
+    (operand-wrote run f.b f.y (omega (arith, rule.y)) c.bound.ensures c.formula.ensures.wrote)))
 
-pub eu-formula-here-requires : goal.eu-formula-here-requires
-eu-formula-here-requires t c =
+pub eu-formula-requires-in-loop : goal.eu-formula-requires-in-loop
+eu-formula-requires-in-loop t c =
     let run = c.args.self.now in
     let e = c.args.e in
     let env = c.args.env in
@@ -469,12 +481,12 @@ eu-formula-here-requires t c =
     let f = fields run h.holding refl in
     let rule = rule-of run h in
     let nows = collects-of run env f.b f.y c.eu-now.ensures.nows in
-    let f-not = stop-lacks nows c.loop.invariant.below c.has.ensures c.if-has.false in
-    let c-is = nearest-of run env f.a f.x f.b f.y c.loop.invariant.below c.eu-now.ensures.leads in
+    let f-not = stop-lacks nows c.loop.invariant.0.below c.has.ensures c.if-has.false in
+    let c-is = nearest-of run env f.a f.x f.b f.y c.loop.invariant.0.below c.eu-now.ensures.leads in
     let on = eu-holds (run-readable run) (run-a run e env).holds (run-b run e env).holds _
-    c.loop.invariant.below c-is c.loop.invariant.holds f-not in (
+    c.loop.invariant.0.below c-is c.loop.invariant.0.holds f-not in (
       omega (arith, c.decreases, f.a, rule.a),
-      under run h.holding f.a rule.a f.x (omega (arith, rule.x)) c.loop.invariant.below c.bound-in-loop.ensures on.0,
+      under run h.holding f.a rule.a f.x (omega (arith, rule.x)) c.loop.invariant.0.below c.bound-in-loop.ensures on.0,
     )
 
 pub eu-loop-preserved : goal.eu-loop-preserved
@@ -487,40 +499,42 @@ eu-loop-preserved t c =
     let f = fields run h.holding refl in
     let rule = rule-of run h in
     let nows = collects-of run env f.b f.y c.eu-now.ensures.nows in
-    let f-not = stop-lacks nows c.loop.invariant.below c.has.ensures c.if-has.false in
-    let c-is = nearest-of run env f.a f.x f.b f.y c.loop.invariant.below c.eu-now.ensures.leads in
+    let f-not = stop-lacks nows c.loop.invariant.0.below c.has.ensures c.if-has.false in
+    let c-is = nearest-of run env f.a f.x f.b f.y c.loop.invariant.0.below c.eu-now.ensures.leads in
     let on = eu-holds (run-readable run) (run-a run e env).holds (run-b run e env).holds _
-    c.loop.invariant.below c-is c.loop.invariant.holds f-not in
-    record {
-      walk = also c.loop.invariant.walk c.loop.s;
-      going = going_more c.loop.invariant.going (eu-goes run e env _ more c.loop.invariant.walk f-not c-is)
-          (wrote-both c.rule-on-in-loop.ensures
-          (wrote-both c.put-chosen.ensures (operand-wrote run f.a f.x (omega (arith, rule.x)) c.bound-in-loop.ensures
-          c.formula-here.ensures)));
-      below = on.1.0;
-      holds = on.1.1;
-    }
+    c.loop.invariant.0.below c-is c.loop.invariant.0.holds f-not in (
+      record {
+        walk = also c.loop.invariant.0.walk c.loop.s;
+        going = going_more c.loop.invariant.0.going (eu-goes run e env _ more c.loop.invariant.0.walk f-not c-is)
+            (wrote-both c.rule-in-loop.ensures.wrote
+            (wrote-both c.put.ensures.wrote (operand-wrote run f.a f.x (omega (arith, rule.x)) c.bound-in-loop.ensures
+            c.formula-in-loop.ensures.wrote)));
+        below = on.1.0;
+        holds = on.1.1;
+      },
+      c.formula-in-loop.ensures.same ∙ c.put.ensures.same ∙ c.rule-in-loop.ensures.same ∙ c.loop.invariant.1,
+    )
 
-pub eu-returns : goal.eu-returns
-eu-returns t c =
+pub eu-returns-clause-wrote : goal.eu-returns-clause-wrote
+eu-returns-clause-wrote t c =
     let run = c.args.self.now in
-    going_done c.loop.invariant.going (two_ends run c.args.e c.args.env Kind.EU _ _ (omega
+    going_done c.loop.invariant.0.going (two_ends run c.args.e c.args.env Kind.EU _ _ (omega
     (arith, c.loop-test.false)))
 
 -- ---- `formula` and `or`: by the kind, and left or right
 
-pub formula-returns-then-out-at : goal.formula-returns-then-out-at
-formula-returns-then-out-at t c = wrote-past _ _ _ _ c.if-out-at.true
+pub formula-returns-then-sheet-clause-wrote : goal.formula-returns-then-sheet-clause-wrote
+formula-returns-then-sheet-clause-wrote t c = wrote-past _ _ _ _ c.if-sheet.true
 
-pub formula-formula-a-requires : goal.formula-formula-a-requires
-formula-formula-a-requires t c =
+pub formula-formula-requires : goal.formula-formula-requires
+formula-formula-requires t c =
     let run = c.args.self.now in
     let f = fields run c.requires refl in
     let h : InHand _ _ _ _ _ K.And = in_arm run c.requires refl c.kind_of.ensures c.in-And.is in
     (omega (arith, c.decreases, f.a, (rule-of run h).a), same-env run c.requires f.a (rule-of run h).a (and_both run h).0)
 
-pub formula-formula-requires : goal.formula-formula-requires
-formula-formula-requires t c =
+pub formula-formula-requires-in-And : goal.formula-formula-requires-in-And
+formula-formula-requires-in-And t c =
     let run = c.args.self.now in
     let f = fields run c.requires refl in
     let h : InHand _ _ _ _ _ K.And = in_arm run c.requires refl c.kind_of.ensures c.in-And.is in
@@ -529,74 +543,74 @@ formula-formula-requires t c =
 pub formula-or-requires : goal.formula-or-requires
 formula-or-requires t c =
     let run = c.args.self.now in
-    (omega (arith, c.decreases), (in_arm run c.requires refl c.kind_of.ensures c.in-Or.is, c.if-out-at.false))
+    (omega (arith, c.decreases), in_arm run c.requires refl c.kind_of.ensures c.in-Or.is)
 
 pub formula-ax-requires : goal.formula-ax-requires
 formula-ax-requires t c =
     let run = c.args.self.now in
-    (omega (arith, c.decreases), (in_arm run c.requires refl c.kind_of.ensures c.in-AX.is, c.if-out-at.false))
+    (omega (arith, c.decreases), in_arm run c.requires refl c.kind_of.ensures c.in-AX.is)
 
 pub formula-ex-requires : goal.formula-ex-requires
 formula-ex-requires t c =
     let run = c.args.self.now in
-    (omega (arith, c.decreases), (in_arm run c.requires refl c.kind_of.ensures c.in-EX.is, c.if-out-at.false))
+    (omega (arith, c.decreases), in_arm run c.requires refl c.kind_of.ensures c.in-EX.is)
 
 pub formula-af_from-requires : goal.formula-af_from-requires
 formula-af_from-requires t c =
     let run = c.args.self.now in
-    (omega (arith, c.decreases), (in_arm run c.requires refl c.kind_of.ensures c.in-AF.is, c.if-out-at.false))
+    (omega (arith, c.decreases), in_arm run c.requires refl c.kind_of.ensures c.in-AF.is)
 
 pub formula-eg-requires : goal.formula-eg-requires
 formula-eg-requires t c =
     let run = c.args.self.now in
-    (omega (arith, c.decreases), (in_arm run c.requires refl c.kind_of.ensures c.in-EG.is, c.if-out-at.false))
+    (omega (arith, c.decreases), (in_arm run c.requires refl c.kind_of.ensures c.in-EG.is, c.if-sheet.false))
 
 pub formula-ar_from-requires : goal.formula-ar_from-requires
 formula-ar_from-requires t c =
     let run = c.args.self.now in
-    (omega (arith, c.decreases), (in_arm run c.requires refl c.kind_of.ensures c.in-AR.is, c.if-out-at.false))
+    (omega (arith, c.decreases), in_arm run c.requires refl c.kind_of.ensures c.in-AR.is)
 
 pub formula-eu-requires : goal.formula-eu-requires
 formula-eu-requires t c =
     let run = c.args.self.now in
-    (omega (arith, c.decreases), (in_arm run c.requires refl c.kind_of.ensures c.in-EU.is, c.if-out-at.false))
+    (omega (arith, c.decreases), (in_arm run c.requires refl c.kind_of.ensures c.in-EU.is, c.if-sheet.false))
 
-pub formula-returns-in-True : goal.formula-returns-in-True
-formula-returns-in-True t c =
+pub formula-returns-in-True-clause-wrote : goal.formula-returns-in-True-clause-wrote
+formula-returns-in-True-clause-wrote t c =
     let run = c.args.self.now in
     let h : InHand _ _ _ _ _ K.True = in_arm run c.requires refl c.kind_of.ensures c.in-True.is in
-    wrote-same (true-steps run h) c.rule.ensures
+    wrote-same (true-steps run h) c.rule.ensures.wrote
 
-pub formula-returns-in-False : goal.formula-returns-in-False
-formula-returns-in-False t c =
+pub formula-returns-in-False-clause-wrote : goal.formula-returns-in-False-clause-wrote
+formula-returns-in-False-clause-wrote t c =
     let run = c.args.self.now in
     absurd (false-never run (in_arm run c.requires refl c.kind_of.ensures c.in-False.is))
 
-pub formula-returns-in-Is : goal.formula-returns-in-Is
-formula-returns-in-Is t c =
+pub formula-returns-in-Is-clause-wrote : goal.formula-returns-in-Is-clause-wrote
+formula-returns-in-Is-clause-wrote t c =
     let run = c.args.self.now in
     let h : InHand _ _ _ _ _ K.Is = in_arm run c.requires refl c.kind_of.ensures c.in-Is.is in
-    wrote-same (is-steps run h) c.rule-in-Is.ensures
+    wrote-same (is-steps run h) c.rule-in-Is.ensures.wrote
 
-pub formula-returns-in-IsNot : goal.formula-returns-in-IsNot
-formula-returns-in-IsNot t c =
+pub formula-returns-in-IsNot-clause-wrote : goal.formula-returns-in-IsNot-clause-wrote
+formula-returns-in-IsNot-clause-wrote t c =
     let run = c.args.self.now in
     let h : InHand _ _ _ _ _ K.IsNot = in_arm run c.requires refl c.kind_of.ensures c.in-IsNot.is in
-    wrote-same (is-not-steps run h) c.rule-in-IsNot.ensures
+    wrote-same (is-not-steps run h) c.rule-in-IsNot.ensures.wrote
 
-pub formula-returns-in-And : goal.formula-returns-in-And
-formula-returns-in-And t c =
+pub formula-returns-in-And-clause-wrote : goal.formula-returns-in-And-clause-wrote
+formula-returns-in-And-clause-wrote t c =
     let run = c.args.self.now in
     let f = fields run c.requires refl in
     let h : InHand _ _ _ _ _ K.And = in_arm run c.requires refl c.kind_of.ensures c.in-And.is in
     wrote-same (and-steps run h)
-    (wrote-both c.rule-on.ensures
-    (wrote-both (plain-wrote run f.a _ c.formula-a.ensures) (plain-wrote run f.b _ c.formula.ensures)))
+    (wrote-both c.rule-in-And.ensures.wrote
+    (wrote-both (plain-wrote run f.a _ c.formula.ensures.wrote) (plain-wrote run f.b _ c.formula-in-And.ensures.wrote)))
 
 pub or-holds_on-requires : goal.or-holds_on-requires
 or-holds_on-requires t c =
     let run = c.args.self.now in
-    let h = c.requires.0 in
+    let h = c.requires in
     let f = fields run h.holding refl in
     let rule = rule-of run h in
     ready_of run h.holding f.a rule.a
@@ -604,7 +618,7 @@ or-holds_on-requires t c =
 pub or-formula-requires : goal.or-formula-requires
 or-formula-requires t c =
     let run = c.args.self.now in
-    let h = c.requires.0 in
+    let h = c.requires in
     let f = fields run h.holding refl in
     let rule = rule-of run h in (
       omega (arith, c.decreases, f.a, rule.a),
@@ -612,18 +626,18 @@ or-formula-requires t c =
           c.args.env f.a c.holds_on.ensures c.if-holds_on.true),
     )
 
-pub or-returns-then-holds_on : goal.or-returns-then-holds_on
-or-returns-then-holds_on t c =
+pub or-returns-then-holds_on-clause-wrote : goal.or-returns-then-holds_on-clause-wrote
+or-returns-then-holds_on-clause-wrote t c =
     let run = c.args.self.now in
-    let h = c.requires.0 in
+    let h = c.requires in
     let f = fields run h.holding refl in
     wrote-same (left-steps run h (told-true run c.args.env f.a c.holds_on.ensures c.if-holds_on.true))
-    (wrote-both c.rule-on.ensures (plain-wrote run f.a _ c.formula.ensures))
+    (wrote-both c.rule.ensures.wrote (plain-wrote run f.a _ c.formula.ensures.wrote))
 
 pub or-formula-requires-else-holds_on : goal.or-formula-requires-else-holds_on
 or-formula-requires-else-holds_on t c =
     let run = c.args.self.now in
-    let h = c.requires.0 in
+    let h = c.requires in
     let f = fields run h.holding refl in
     let rule = rule-of run h in (
       omega (arith, c.decreases, f.b, rule.b),
@@ -631,70 +645,74 @@ or-formula-requires-else-holds_on t c =
           c.holds_on.ensures c.if-holds_on.false)),
     )
 
-pub or-returns-else-holds_on : goal.or-returns-else-holds_on
-or-returns-else-holds_on t c =
+pub or-returns-else-holds_on-clause-wrote : goal.or-returns-else-holds_on-clause-wrote
+or-returns-else-holds_on-clause-wrote t c =
     let run = c.args.self.now in
-    let h = c.requires.0 in
+    let h = c.requires in
     let f = fields run h.holding refl in
     wrote-same (right-steps run h (told-false run c.args.env f.a c.holds_on.ensures c.if-holds_on.false))
-    (wrote-both c.rule-on-else-holds_on.ensures (plain-wrote run f.b _
-    c.formula-else-holds_on.ensures))
+    (wrote-both c.rule-else-holds_on.ensures.wrote (plain-wrote run f.b _
+    c.formula-else-holds_on.ensures.wrote))
 
 -- ---- `ax` and `ex`: at each successor, and at a chosen one
 
 pub ax-loop-t-init : goal.ax-loop-t-init
 ax-loop-t-init t c =
     let run = c.args.self.now in
-    let h = c.requires.0 in
+    let h = c.requires in
     let f = fields run h.holding refl in
     let rule = rule-of run h in
     let row = run-row run in
-    let below = start-below run h.holding rule.t in
-    each_start row below _ _ _ _ (wrote-place c.rule-here.ensures) (number_lt _ _ c.load-there.type_inv) (walk-begins c.into_iter-t-iterator.ensures.into_iter_gives c.stages-t-items.ensures)
-    (next-all run below (c.load-there.ensures ∙ ap (held run.setup.next.now) (start_is run h.holding f c.stage_of.ensures)))
+    let below = start-below run h.holding rule.t in (
+      each_start row below _ _ _ _ (wrote-place c.rule.ensures.wrote) (number_lt _ _ c.load-there.type_inv) (walk-begins c.into_iter-t-iterator.ensures.into_iter_gives c.stages-t-items.ensures)
+          (next-all run below (c.load-there.ensures ∙ ap (held run.setup.next.now) (start_is run h.holding f c.stage_of.ensures))),
+      refl,
+    )
 
-pub ax-formula-here-requires : goal.ax-formula-here-requires
-ax-formula-here-requires t c =
+pub ax-formula-requires : goal.ax-formula-requires
+ax-formula-requires t c =
     let run = c.args.self.now in
-    let h = c.requires.0 in
+    let h = c.requires in
     let f = fields run h.holding refl in
     let rule = rule-of run h in
     let row = run-row run in
     let below = start-below run h.holding rule.t in
     let turn = c.in-Some.ensures.steps in
-    let edge = each-edge row below _ _ _ _ c.loop-t.invariant turn in (
+    let edge = each-edge row below _ _ _ _ c.loop-t.invariant.0 turn in (
       omega (arith, c.decreases, f.a, rule.a),
-      under run h.holding f.a rule.a f.x (omega (arith, rule.x)) (each-stage row below _ _ _ _ c.loop-t.invariant turn) c.bound.ensures
+      under run h.holding f.a rule.a f.x (omega (arith, rule.x)) (each-stage row below _ _ _ _ c.loop-t.invariant.0 turn) c.bound.ensures
           ((each_next_lem (run-readable run) _ _).0 (ax-each run h) _ edge),
     )
 
 pub ax-loop-t-preserved : goal.ax-loop-t-preserved
 ax-loop-t-preserved t c =
     let run = c.args.self.now in
-    let h = c.requires.0 in
+    let h = c.requires in
     let f = fields run h.holding refl in
     let rule = rule-of run h in
     let row = run-row run in
     let below = start-below run h.holding rule.t in
-    let turn = c.in-Some.ensures.steps in
-    turns-on row below _ _ _ _ c.loop-t.invariant turn (operand-wrote run f.a f.x (omega (arith, rule.x))
-    c.bound.ensures c.formula-here.ensures)
+    let turn = c.in-Some.ensures.steps in (
+      turns-on row below _ _ _ _ c.loop-t.invariant.0 turn (operand-wrote run f.a f.x (omega (arith, rule.x))
+          c.bound.ensures c.formula.ensures.wrote),
+      c.formula.ensures.same ∙ c.loop-t.invariant.1,
+    )
 
-pub ax-returns : goal.ax-returns
-ax-returns t c =
+pub ax-returns-clause-wrote : goal.ax-returns-clause-wrote
+ax-returns-clause-wrote t c =
     let run = c.args.self.now in
-    let h = c.requires.0 in
+    let h = c.requires in
     let rule = rule-of run h in
     let row = run-row run in
     let below = start-below run h.holding rule.t in
     wrote-same (ax-steps run h)
-    (wrote-both c.rule-here.ensures
-    (each-end row below _ _ _ _ c.loop-t.invariant c.in-None.ensures.steps.0))
+    (wrote-both c.rule.ensures.wrote
+    (each-end row below _ _ _ _ c.loop-t.invariant.0 c.in-None.ensures.steps.0))
 
 pub ex-ex-c-requires : goal.ex-ex-c-requires
 ex-ex-c-requires t c =
     let run = c.args.self.now in
-    let h = c.requires.0 in
+    let h = c.requires in
     let f = fields run h.holding refl in
     let rule = rule-of run h in
     let s-is = start_is run h.holding f c.stage_of.ensures in
@@ -705,7 +723,7 @@ pub ex-formula-requires : goal.ex-formula-requires
 ex-formula-requires t c =
     let run = c.args.self.now in
     let env = c.args.env in
-    let h = c.requires.0 in
+    let h = c.requires in
     let f = fields run h.holding refl in
     let rule = rule-of run h in
     let s-is = start_is run h.holding f c.stage_of.ensures in
@@ -716,31 +734,31 @@ ex-formula-requires t c =
       under run h.holding f.a rule.a f.x (omega (arith, rule.x)) at.0 c.bound.ensures at.1,
     )
 
-pub ex-returns : goal.ex-returns
-ex-returns t c =
+pub ex-returns-clause-wrote : goal.ex-returns-clause-wrote
+ex-returns-clause-wrote t c =
     let run = c.args.self.now in
     let env = c.args.env in
-    let h = c.requires.0 in
+    let h = c.requires in
     let f = fields run h.holding refl in
     let rule = rule-of run h in
     let s-is = start_is run h.holding f c.stage_of.ensures in
     let chosen = choice-of run env f.a f.x s-is c.ex-c.ensures in
     wrote-same (ex-steps run h _ chosen)
-    (wrote-both c.rule-on.ensures
-    (wrote-both c.put-chosen.ensures (operand-wrote run f.a f.x (omega (arith, rule.x)) c.bound.ensures
-    c.formula.ensures)))
+    (wrote-both c.rule.ensures.wrote
+    (wrote-both c.put.ensures.wrote (operand-wrote run f.a f.x (omega (arith, rule.x)) c.bound.ensures
+    c.formula.ensures.wrote)))
 
 pub af_from-invariant_of-a : goal.af_from-invariant_of-a
 af_from-invariant_of-a t c =
     let run = c.args.self.now in
-    let h = c.requires.0 in
+    let h = c.requires in
     let f = fields run h.holding refl in
     omega (arith, f.x, (rule-of run h).x)
 
 pub ar_from-invariant_of-a : goal.ar_from-invariant_of-a
 ar_from-invariant_of-a t c =
     let run = c.args.self.now in
-    let h = c.requires.0 in
+    let h = c.requires in
     let f = fields run h.holding refl in
     omega (arith, f.x, (rule-of run h).x)
 
@@ -761,6 +779,6 @@ eu-invariant_of-b t c =
 pub ex-invariant_of-a : goal.ex-invariant_of-a
 ex-invariant_of-a t c =
     let run = c.args.self.now in
-    let h = c.requires.0 in
+    let h = c.requires in
     let f = fields run h.holding refl in
     omega (arith, f.x, (rule-of run h).x)

@@ -1,5 +1,6 @@
 -- The writers of steps, `pen::run::Run`: the measure of each, and what holds at each turn of their loops. The measure counts the entry, and along a walk the
 -- fuel; the small constants order the writers of one step.
+use mathlib.Core.Path.{◌≡◌}
 use Rattle.sets.specs.Number.{number}
 use Rattle.format.specs.Image.{stages_of, graph_of}
 use Rattle.hand.specs.Environment.{env_of}
@@ -13,23 +14,27 @@ use Rattle.pen.proofs.run.Run.+af_af_from_af_step_ar_ar_from_ax_eg_eu_ex_formula
 
 abbrev pub invariant-af_step-loop-t : goal.invariant-af_step-loop-t
 invariant-af_step-loop-t l =
-    Turns (stages_of l.self.setup.image.now) ((graph_of l.self.setup.image.now).next l.s) (af_steps l.self.setup.image.now l.self.setup.table.now l.self.side l.e (env_of l.env)) l.self.writing l.initial.here l.initial.out
-    (number l.t-iterator.left) l.out l.here
+    Turns (stages_of l.self.setup.image.now) ((graph_of l.self.setup.image.now).next l.s) (af_steps l.self.setup.image.now l.self.setup.table.now l.self.side l.e (env_of l.env)) l.self.writing l.initial.sheet.at l.initial.sheet.out.now
+    (number l.t-iterator.left) l.sheet.out.now l.sheet.at
     × Noted l.self.setup.image.now l.self.setup.table.now l.self.side l.e (env_of l.env) l.lens
+    × (l.sheet.out.ghost_name ≡ l.initial.sheet.out.ghost_name)
 
 abbrev pub invariant-ar-loop-t : goal.invariant-ar-loop-t
 invariant-ar-loop-t l =
     Turns (stages_of l.self.setup.image.now) ((graph_of l.self.setup.image.now).next l.s)
-    (two_steps l.self.setup.image.now l.self.setup.table.now l.self.side Kind.AR l.e (env_of l.env) (l.left - 1) (walk_of (number l.longer))) l.self.writing l.initial.here l.initial.out
-    (number l.t-iterator.left) l.out l.here
+    (two_steps l.self.setup.image.now l.self.setup.table.now l.self.side Kind.AR l.e (env_of l.env) (l.left - 1) (walk_of (number l.longer))) l.self.writing l.initial.sheet.at l.initial.sheet.out.now
+    (number l.t-iterator.left) l.sheet.out.now l.sheet.at
+    × (l.sheet.out.ghost_name ≡ l.initial.sheet.out.ghost_name)
 
 abbrev pub invariant-eg-loop : goal.invariant-eg-loop
 invariant-eg-loop l =
-    EgGoing l.self.setup.image.now l.self.setup.table.now l.self.side l.e l.env l.self.writing l.at l.initial.out (number l.walk) l.s (l.self.setup.stages + 1 - l.counter) l.out l.here
+    EgGoing l.self.setup.image.now l.self.setup.table.now l.self.side l.e l.env l.self.writing l.initial.sheet.at l.initial.sheet.out.now (number l.walk) l.s (l.self.setup.stages + 1 - l.counter) l.sheet.out.now l.sheet.at
+    × (l.sheet.out.ghost_name ≡ l.initial.sheet.out.ghost_name)
 
 abbrev pub invariant-eu-loop : goal.invariant-eu-loop
 invariant-eu-loop l =
-    EuGoing l.self.setup.image.now l.self.setup.table.now l.self.side l.e l.env l.self.writing l.at l.initial.out l.s (l.self.setup.stages + 1 - l.counter) l.out l.here
+    EuGoing l.self.setup.image.now l.self.setup.table.now l.self.side l.e l.env l.self.writing l.initial.sheet.at l.initial.sheet.out.now l.s (l.self.setup.stages + 1 - l.counter) l.sheet.out.now l.sheet.at
+    × (l.sheet.out.ghost_name ≡ l.initial.sheet.out.ghost_name)
 
 abbrev pub decreases-af : goal.decreases-af
 decreases-af l = 400 * l.e + 4 * l.left + 2
@@ -67,5 +72,6 @@ decreases-or l = 400 * l.e + 380
 abbrev pub invariant-ax-loop-t : goal.invariant-ax-loop-t
 invariant-ax-loop-t l =
     Turns (stages_of l.self.setup.image.now) ((graph_of l.self.setup.image.now).next (start_of l.self.setup.image.now l.self.setup.table.now l.self.side l.e (env_of l.env)))
-    (a_of l.self.setup.image.now l.self.setup.table.now l.self.side l.e (env_of l.env)).steps l.self.writing l.initial.here l.initial.out
-    (number l.t-iterator.left) l.out l.here
+    (a_of l.self.setup.image.now l.self.setup.table.now l.self.side l.e (env_of l.env)).steps l.self.writing l.initial.sheet.at l.initial.sheet.out.now
+    (number l.t-iterator.left) l.sheet.out.now l.sheet.at
+    × (l.sheet.out.ghost_name ≡ l.initial.sheet.out.ghost_name)

@@ -9,7 +9,7 @@ use Rattle.format.proofs.TreeLaws.{row}
 use Rattle.verdict.specs.Kinds.{is_first}
 use Rattle.verdict.proofs.CollectLaws.{collects-take, collects-skip}
 use Rattle.verdict.proofs.EvaluationLaws.{constant-arm, literal-arm, junction-arm, settled-arm, modal-arm, unary-set, binary-set, no-set}
-use Rattle.verdict.proofs.EvaluationLaws.{each_turn, once-arm, ready-rule, unary-operand, binary-first, binary-second, junction-first}
+use Rattle.verdict.proofs.EvaluationLaws.{each_turn, once-arm, unary-operand, binary-first, binary-second, junction-first}
 use Rattle.verdict.proofs.EvaluationLaws.{junction-second}
 use Rattle.verdict.proofs.setup.Setup.+modal_set_where_each_where_holds_where_modal.Goals as goal
 use Rattle.verdict.proofs.setup.Setup.+modal_set_where_each_where_holds_where_modal.Goals.{where_each-then-has, where_each-else-has}
@@ -95,7 +95,7 @@ where_holds-returns-in-Unary t c =
     modal-arm c.args.self.now c.requires.0 _ (row c.entry-r.ensures c.kind_of-kind.ensures c.sort_of.ensures refl) c.in-Unary.is c.where_modal.ensures
 
 pub where_modal-depends-requires : goal.where_modal-depends-requires
-where_modal-depends-requires t c = (ready-rule c.args.self.now c.requires.0, c.requires.1)
+where_modal-depends-requires t c = (c.requires.0.entry, c.requires.1)
 
 pub where_modal-returns-else-depends : goal.where_modal-returns-else-depends
 where_modal-returns-else-depends t c =
