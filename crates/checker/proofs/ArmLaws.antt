@@ -28,15 +28,14 @@ use Rattle.format.specs.Table.{record_at, kind_of, sort_of, term_of, IsTerm, a_s
 use Rattle.format.specs.declared.record.Record.{Record}
 use Rattle.format.specs.declared.record.Kind.{Kind}
 use Rattle.format.specs.declared.record.Kind.TheVariants as K
-use Rattle.rules.specs.Table.{row, kind_for}
+use Rattle.rules.specs.Table.{kind_for}
 use Rattle.rules.specs.Head.{head_of, Head, step_by}
 use Rattle.rules.specs.Reading.{Reader, Progress}
 use Rattle.rules.specs.declared.Rule.{Rule}
 use Rattle.std.specs.Prelude.{Ok, Err}
 use Rattle.rules.specs.declared.Unread.{Unread}
 use Rattle.rules.specs.declared.Stop.{Stop}
-use Rattle.rules.proofs.Heads.{head-begins, not-false}
-use Rattle.rules.proofs.StepLaws.{number-kind}
+use Rattle.rules.proofs.Heads.{head-begins}
 use Rattle.hand.specs.Environment.{env_of, Bound}
 use Rattle.hand.specs.declared.env.Env.{Env as Slots}
 use Rattle.hand.specs.Side.{kind_on, number_of}
@@ -268,9 +267,6 @@ module _ {image table : List ℕ} {sets : List Set} {entries : List Entry} {step
   -- The rule is for the kind in the entry's field.
   pub arm-kind : kind_for q ≡ (entry_at entries e).kind
   arm-kind = for-kind ∙ sym (kind-is arm.hand)
-
-  pub not-one : kind_for q ≡ 1 → ⊥
-  not-one e = not-false q (number-kind (row q).kind _ e)
 
   -- So its record keeps the rules of the rule's kind,
   pub arm-ruled : RuledAs (sort_of (kind_of (kind_for q))) image e (record_at table e)

@@ -149,7 +149,8 @@ impl Steps<'_> {
         Ok(())
     }
 
-    // One step at a stage of the walk: the code byte, 23, the chosen byte, 24, and then the premises, in order.
+    // One step at a stage of the walk: the code byte, 23, the chosen byte, 24, and then the premises, in order. Entry, variables, walk and stage stand apart,
+    // as each premise has others of them.
     #[cycle(formula_walk)]
     fn walk(&self, e: u8, env: Env, met: Set, s: u8, at: &mut usize) -> Result<(), Cause>
         requires { Walking self.now.sets.now self.now.entries.now e (env_of env) s }

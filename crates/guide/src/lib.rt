@@ -7,6 +7,8 @@
 // The cost with n stages: the stages at which the operands hold, each worked out once by the verdict, and then at most n rounds, each of which asks no
 // stage that was led in a round before.
 //
+// Where there is no such successor a stage is led to 0: so it is in `lowest_next` and `nearest`, the definitions of what is written, which are total.
+//
 // All require what a question that is not refused has (`Ready`), as the verdict's `where_holds` does, and a row with room for a stage for each stage of
 // the setup, which for EU must lead nowhere yet.
 #![tactic(auto)]
@@ -48,7 +50,7 @@ pub fn eg(setup: &Setup<'_>, side: u8, a: Operand, env: Env, toward: &mut [u8])
 }
 
 // EU: the stages at which b holds on a side, with its variable there, which are the nows; and every stage is led to the successor fewest steps from a now
-// along stages with a, the lowest of equals; 0 where there is none. Past the stages the row is kept.
+// along stages with a, the lowest of equals; 0 where there is none. Past the stages the row is kept. The operands are two parameters, as they may be any two.
 pub fn eu(setup: &Setup<'_>, side: u8, a: Operand, b: Operand, env: Env, toward: &mut [u8]) -> Set
     requires { Ready setup.now.table.now setup.now.stages a.entry env × Ready setup.now.table.now setup.now.stages b.entry env
         × (setup.now.stages ≤ length toward.old) × Cleared setup.now.stages toward.old }

@@ -1,4 +1,5 @@
-// An entry's formula on a side: side 0 is the formula, any other its dual, which holds exactly where the formula does not.
+// An entry's formula on a side: side 0 is the formula, any other its dual, which holds exactly where the formula does not. A side is any number, as a type
+// of two would ask more of callers.
 ghost use Rattle.std.specs.Prelude.{◌≡◌, ◌<◌};
 ghost use Rattle.sets.specs.Number.{number};
 ghost use Rattle.verdict.specs.Evaluation.{Collects, Ready};

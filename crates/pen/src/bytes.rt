@@ -1,5 +1,5 @@
 // Bytes put on a sheet one after the other, or only counted. A place is how many bytes came before; it is counted up to one past the buffer's end and no
-// further, so a place past the end says that there was no room.
+// further, so a place past the end says that there was no room; `whole` promises such a number to its callers.
 ghost use Rattle.std.specs.Prelude.{◌≡◌, [], ◌∷◌};
 ghost use Rattle.rules.specs.Table.{row};
 ghost use Rattle.checker.specs.Header.{header_of};
@@ -8,7 +8,7 @@ ghost use Rattle.pen.specs.Wrote.{Wrote};
 use crate::run::Run;
 use rules::Rule;
 
-// A lent buffer, and the place that the writing came to.
+// A lent buffer, and the place that the writing came to. The program's line has a struct of its own, which asks for room where this counts on without.
 #[derive(Drop)]
 pub(crate) struct Sheet<'a> {
     pub(crate) out: &'a mut [u8],

@@ -111,7 +111,7 @@ impl Run<'_> {
         self.formula(f.a, env.bound(f.x, c), sheet)
     }
 
-    // AF, from the start of its walk: it goes now where a holds. No length is known yet.
+    // AF, from the start of its walk: it goes now where a holds. No length is known yet: each is 0, which none has, and options would take twice the stack.
     #[cycle(af_af_from_af_step_ar_ar_from_ax_eg_eu_ex_formula_or)]
     fn af_from(&self, e: u8, env: Env, sheet: &mut Sheet<'_>)
         requires { InHand self.now.setup.image.now self.now.setup.table.now self.now.side e env AF }

@@ -3,7 +3,7 @@ ghost use Rattle.std.specs.Prelude.{◌≡◌};
 
 use format::answer::Coded;
 
-// Which side the certificate proves, and how many bytes of the buffer it takes.
+// Which side the certificate proves, by the number that its header has, and how many bytes of the buffer it takes.
 #[derive(Clone, Copy)]
 pub struct Written {
     pub side: u8,

@@ -32,7 +32,7 @@ fn answer<R: Read, W: Write>(from: &mut R, to: &mut W) -> io::Result<()>
 }
 
 // Reads until the buffer is full or the input ends, or until a read fails. How much was read, at the buffer's front, comes back with the read's error.
-// By hand: the library reads a whole input into a vector only, and of an input that ends early `read_exact` does not say how much there was.
+// By hand: the library reads a whole input into a vector only, which takes a heap, and `read_exact` does not say how much there was of one that ends early.
 fn read_full<R: Read>(from: &mut R, buffer: &mut [u8]) -> (usize, io::Result<()>)
     ensures inside { result.0 ≤ length buffer.new }
     ensures bytes { Consumes (R.remaining from.old) (R.remaining from.new) (take result.0 buffer.new) }
