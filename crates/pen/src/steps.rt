@@ -24,6 +24,14 @@ use hand::env::Env;
 use rules::Rule;
 use sets::Set;
 
+// What stays the same along a walk of AF or AR: its entry, where the variables stand at its start, and the stages at which it goes now, or is released.
+#[derive(Clone, Copy)]
+struct Course {
+    entry: u8,
+    env: Env,
+    stop: Set,
+}
+
 impl Run<'_> {
     // An entry's formula, from the start of its walk. False holds nowhere.
     #[cycle(af_af_from_af_step_ar_ar_from_ax_eg_eu_ex_formula_or)]
@@ -127,7 +135,12 @@ impl Run<'_> {
         let stop = sides::where_on(&self.setup, self.side, a, env);
         let s = env::stage_of(f.t, env);
         let mut lens = [0u64; sets::WIDTH];
-        self.af(e, env, stop, s, self.setup.stages + 1, &mut lens, sheet)
+        let course = Course {
+            entry: e,
+            env,
+            stop,
+        };
+        self.af(&course, s, self.setup.stages + 1, &mut lens, sheet)
     }
 
     // AF at a stage. Its steps there are the same however it is come to, so while they are only counted their length is worked out once and noted. A length
@@ -135,19 +148,19 @@ impl Run<'_> {
     #[cycle(af_af_from_af_step_ar_ar_from_ax_eg_eu_ex_formula_or)]
     fn af(
         &self,
-        e: u8,
-        env: Env,
-        stop: Set,
+        course: &Course,
         s: u8,
         left: usize,
         lens: &mut [u64; sets::WIDTH],
         sheet: &mut Sheet<'_>,
     )
-        requires { AfAt self.now.setup.image.now self.now.setup.table.now self.now.side e env (number stop) s left lens.old }
-        ensures wrote { Wrote self.now.writing (af_steps self.now.setup.image.now self.now.setup.table.now self.now.side e (env_of env) s)
+        requires { AfAt self.now.setup.image.now self.now.setup.table.now self.now.side course.now.entry course.now.env (number course.now.stop)
+            s left lens.old }
+        ensures wrote { Wrote self.now.writing
+            (af_steps self.now.setup.image.now self.now.setup.table.now self.now.side course.now.entry (env_of course.now.env) s)
             sheet.old.at sheet.old.out.now sheet.new.out.now sheet.new.at }
         ensures same { sheet.new.out.ghost_name ≡ sheet.old.out.ghost_name }
-        ensures noted { Noted self.now.setup.image.now self.now.setup.table.now self.now.side e (env_of env) lens.new }
+        ensures noted { Noted self.now.setup.image.now self.now.setup.table.now self.now.side course.now.entry (env_of course.now.env) lens.new }
     {
         if sheet.out.len() < sheet.at {
             sheet.at = sheet.out.len() + 1;
@@ -166,7 +179,7 @@ impl Run<'_> {
             }
         }
         let begun = sheet.at;
-        self.af_step(e, env, stop, s, left, lens, sheet);
+        self.af_step(course, s, left, lens, sheet);
         if sheet.at <= sheet.out.len() {
             lens[i] = (sheet.at - begun) as u64;
         }
@@ -176,30 +189,30 @@ impl Run<'_> {
     #[cycle(af_af_from_af_step_ar_ar_from_ax_eg_eu_ex_formula_or)]
     fn af_step(
         &self,
-        e: u8,
-        env: Env,
-        stop: Set,
+        course: &Course,
         s: u8,
         left: usize,
         lens: &mut [u64; sets::WIDTH],
         sheet: &mut Sheet<'_>,
     )
-        requires { AfAt self.now.setup.image.now self.now.setup.table.now self.now.side e env (number stop) s left lens.old
+        requires { AfAt self.now.setup.image.now self.now.setup.table.now self.now.side course.now.entry course.now.env (number course.now.stop)
+            s left lens.old
             × (sheet.old.at ≤ length sheet.old.out.now) }
-        ensures wrote { Wrote self.now.writing (af_steps self.now.setup.image.now self.now.setup.table.now self.now.side e (env_of env) s)
+        ensures wrote { Wrote self.now.writing
+            (af_steps self.now.setup.image.now self.now.setup.table.now self.now.side course.now.entry (env_of course.now.env) s)
             sheet.old.at sheet.old.out.now sheet.new.out.now sheet.new.at }
         ensures same { sheet.new.out.ghost_name ≡ sheet.old.out.ghost_name }
-        ensures noted { Noted self.now.setup.image.now self.now.setup.table.now self.now.side e (env_of env) lens.new }
+        ensures noted { Noted self.now.setup.image.now self.now.setup.table.now self.now.side course.now.entry (env_of course.now.env) lens.new }
     {
-        if stop.has(s as usize) {
-            let f = self.entries[e as usize];
+        if course.stop.has(s as usize) {
+            let f = self.entries[course.entry as usize];
             self.rule(Rule::AfNow, sheet);
-            return self.formula(f.a, env.bound(f.x, s), sheet);
+            return self.formula(f.a, course.env.bound(f.x, s), sheet);
         }
         self.rule(Rule::AfLater, sheet);
         let there = sets::row::load(self.setup.next, s as usize);
         for t in there.stages() {
-            self.af(e, env, stop, t as u8, left - 1, lens, sheet);
+            self.af(course, t as u8, left - 1, lens, sheet);
         }
     }
 
@@ -248,15 +261,21 @@ impl Run<'_> {
         };
         let stop = sides::where_on(&self.setup, self.side, a, env);
         let s = env::stage_of(f.t, env);
-        self.ar(e, env, stop, Set::empty(), s, self.setup.stages + 1, sheet)
+        let course = Course {
+            entry: e,
+            env,
+            stop,
+        };
+        self.ar(&course, Set::empty(), s, self.setup.stages + 1, sheet)
     }
 
     // AR at a stage of its walk: merge, release, or b here and AR at each successor, ascending.
     #[cycle(af_af_from_af_step_ar_ar_from_ax_eg_eu_ex_formula_or)]
-    fn ar(&self, e: u8, env: Env, stop: Set, walk: Set, s: u8, left: usize, sheet: &mut Sheet<'_>)
-        requires { ArAt self.now.setup.image.now self.now.setup.table.now self.now.side e env (number stop) s left }
+    fn ar(&self, course: &Course, walk: Set, s: u8, left: usize, sheet: &mut Sheet<'_>)
+        requires { ArAt self.now.setup.image.now self.now.setup.table.now self.now.side course.now.entry course.now.env (number course.now.stop) s left }
         ensures wrote { Wrote self.now.writing
-            (two_steps self.now.setup.image.now self.now.setup.table.now self.now.side rule.Kind.AR e (env_of env) left (walk_of (number walk)) s)
+            (two_steps self.now.setup.image.now self.now.setup.table.now self.now.side rule.Kind.AR course.now.entry (env_of course.now.env) left
+            (walk_of (number walk)) s)
             sheet.old.at sheet.old.out.now sheet.new.out.now sheet.new.at }
         ensures same { sheet.new.out.ghost_name ≡ sheet.old.out.ghost_name }
     {
@@ -270,18 +289,18 @@ impl Run<'_> {
         if walk.has(s as usize) {
             return self.rule(Rule::ArMerge, sheet);
         }
-        let f = self.entries[e as usize];
-        if stop.has(s as usize) {
+        let f = self.entries[course.entry as usize];
+        if course.stop.has(s as usize) {
             self.rule(Rule::ArRelease, sheet);
-            self.formula(f.a, env.bound(f.x, s), sheet);
-            return self.formula(f.b, env.bound(f.y, s), sheet);
+            self.formula(f.a, course.env.bound(f.x, s), sheet);
+            return self.formula(f.b, course.env.bound(f.y, s), sheet);
         }
         self.rule(Rule::ArOn, sheet);
-        self.formula(f.b, env.bound(f.y, s), sheet);
+        self.formula(f.b, course.env.bound(f.y, s), sheet);
         let longer = walk.with(s as usize);
         let there = sets::row::load(self.setup.next, s as usize);
         for t in there.stages() {
-            self.ar(e, env, stop, longer, t as u8, left - 1, sheet);
+            self.ar(course, longer, t as u8, left - 1, sheet);
         }
     }
 

@@ -82,7 +82,7 @@ pub af-returns-then-sheet-2-clause-noted : goal.af-returns-then-sheet-2-clause-n
 af-returns-then-sheet-2-clause-noted t c =
     let run = c.args.self.now in
     let step = c.af_step.ensures in
-    noted_more run c.args.e c.args.env _ step.noted step.wrote (omega (arith, c.if-sheet-2.true, wrote-length step.wrote))
+    noted_more run c.args.course.now.entry c.args.course.now.env _ step.noted step.wrote (omega (arith, c.if-sheet-2.true, wrote-length step.wrote))
 
 pub af_step-formula-requires : goal.af_step-formula-requires
 af_step-formula-requires t c =
@@ -206,14 +206,14 @@ ar-returns-then-sheet-clause-wrote t c = wrote-past _ _ _ _ c.if-sheet.true
 pub ar-returns-then-left-eq0-clause-wrote : goal.ar-returns-then-left-eq0-clause-wrote
 ar-returns-then-left-eq0-clause-wrote t c =
     let run = c.args.self.now in
-    wrote-same (sym (two_ends run c.args.e c.args.env Kind.AR _ _ c.if-left-eq0.true)) (wrote_none _ _ _
+    wrote-same (sym (two_ends run c.args.course.now.entry c.args.course.now.env Kind.AR _ _ c.if-left-eq0.true)) (wrote_none _ _ _
     (omega (arith, c.if-sheet.false)))
 
 pub ar-returns-then-has-clause-wrote : goal.ar-returns-then-has-clause-wrote
 ar-returns-then-has-clause-wrote t c =
     let run = c.args.self.now in
     let more : c.args.left ≡ suc (c.args.left - 1) = omega (arith, c.if-left-eq0.false) in
-    wrote-same (ar-merges run c.args.e c.args.env _ _ more (walk-has _ _
+    wrote-same (ar-merges run c.args.course.now.entry c.args.course.now.env _ _ more (walk-has _ _
     c.has.ensures c.if-has.true)) c.rule.ensures.wrote
 
 pub ar-formula-requires : goal.ar-formula-requires
@@ -231,8 +231,8 @@ ar-formula-requires t c =
 pub ar-formula-requires-then-has-2 : goal.ar-formula-requires-then-has-2
 ar-formula-requires-then-has-2 t c =
     let run = c.args.self.now in
-    let e = c.args.e in
-    let env = c.args.env in
+    let e = c.args.course.now.entry in
+    let env = c.args.course.now.env in
     let a = c.requires in
     let h = a.hand in
     let f = fields run h.holding refl in
@@ -247,8 +247,8 @@ pub ar-returns-then-has-2-clause-wrote : goal.ar-returns-then-has-2-clause-wrote
 ar-returns-then-has-2-clause-wrote t c =
     let run = c.args.self.now in
     let more : c.args.left ≡ suc (c.args.left - 1) = omega (arith, c.if-left-eq0.false) in
-    let e = c.args.e in
-    let env = c.args.env in
+    let e = c.args.course.now.entry in
+    let env = c.args.course.now.env in
     let a = c.requires in
     let h = a.hand in
     let f = fields run h.holding refl in
@@ -262,8 +262,8 @@ ar-returns-then-has-2-clause-wrote t c =
 pub ar-formula-requires-2 : goal.ar-formula-requires-2
 ar-formula-requires-2 t c =
     let run = c.args.self.now in
-    let e = c.args.e in
-    let env = c.args.env in
+    let e = c.args.course.now.entry in
+    let env = c.args.course.now.env in
     let a = c.requires in
     let h = a.hand in
     let f = fields run h.holding refl in
@@ -287,8 +287,8 @@ ar-loop-t-init t c =
 pub ar-ar-requires : goal.ar-ar-requires
 ar-ar-requires t c =
     let run = c.args.self.now in
-    let e = c.args.e in
-    let env = c.args.env in
+    let e = c.args.course.now.entry in
+    let env = c.args.course.now.env in
     let a = c.requires in
     let h = a.hand in
     let row = run-row run in
@@ -319,8 +319,8 @@ pub ar-returns-clause-wrote : goal.ar-returns-clause-wrote
 ar-returns-clause-wrote t c =
     let run = c.args.self.now in
     let more : c.args.left ≡ suc (c.args.left - 1) = omega (arith, c.if-left-eq0.false) in
-    let e = c.args.e in
-    let env = c.args.env in
+    let e = c.args.course.now.entry in
+    let env = c.args.course.now.env in
     let a = c.requires in
     let h = a.hand in
     let f = fields run h.holding refl in

@@ -14,15 +14,16 @@ use Rattle.pen.proofs.run.Run.+af_af_from_af_step_ar_ar_from_ax_eg_eu_ex_formula
 
 abbrev pub invariant-af_step-loop-t : goal.invariant-af_step-loop-t
 invariant-af_step-loop-t l =
-    Turns (stages_of l.self.setup.image.now) ((graph_of l.self.setup.image.now).next l.s) (af_steps l.self.setup.image.now l.self.setup.table.now l.self.side l.e (env_of l.env)) l.self.writing l.initial.sheet.at l.initial.sheet.out.now
+    Turns (stages_of l.self.setup.image.now) ((graph_of l.self.setup.image.now).next l.s)
+    (af_steps l.self.setup.image.now l.self.setup.table.now l.self.side l.course.entry (env_of l.course.env)) l.self.writing l.initial.sheet.at l.initial.sheet.out.now
     (number l.t-iterator.left) l.sheet.out.now l.sheet.at
-    × Noted l.self.setup.image.now l.self.setup.table.now l.self.side l.e (env_of l.env) l.lens
+    × Noted l.self.setup.image.now l.self.setup.table.now l.self.side l.course.entry (env_of l.course.env) l.lens
     × (l.sheet.out.ghost_name ≡ l.initial.sheet.out.ghost_name)
 
 abbrev pub invariant-ar-loop-t : goal.invariant-ar-loop-t
 invariant-ar-loop-t l =
     Turns (stages_of l.self.setup.image.now) ((graph_of l.self.setup.image.now).next l.s)
-    (two_steps l.self.setup.image.now l.self.setup.table.now l.self.side Kind.AR l.e (env_of l.env) (l.left - 1) (walk_of (number l.longer))) l.self.writing l.initial.sheet.at l.initial.sheet.out.now
+    (two_steps l.self.setup.image.now l.self.setup.table.now l.self.side Kind.AR l.course.entry (env_of l.course.env) (l.left - 1) (walk_of (number l.longer))) l.self.writing l.initial.sheet.at l.initial.sheet.out.now
     (number l.t-iterator.left) l.sheet.out.now l.sheet.at
     × (l.sheet.out.ghost_name ≡ l.initial.sheet.out.ghost_name)
 
@@ -37,16 +38,16 @@ invariant-eu-loop l =
     × (l.sheet.out.ghost_name ≡ l.initial.sheet.out.ghost_name)
 
 abbrev pub decreases-af : goal.decreases-af
-decreases-af l = 400 * l.e + 4 * l.left + 2
+decreases-af l = 400 * l.course.now.entry + 4 * l.left + 2
 
 abbrev pub decreases-af_from : goal.decreases-af_from
 decreases-af_from l = 400 * l.e + 380
 
 abbrev pub decreases-af_step : goal.decreases-af_step
-decreases-af_step l = 400 * l.e + 4 * l.left + 1
+decreases-af_step l = 400 * l.course.now.entry + 4 * l.left + 1
 
 abbrev pub decreases-ar : goal.decreases-ar
-decreases-ar l = 400 * l.e + 4 * l.left + 1
+decreases-ar l = 400 * l.course.now.entry + 4 * l.left + 1
 
 abbrev pub decreases-ar_from : goal.decreases-ar_from
 decreases-ar_from l = 400 * l.e + 380
