@@ -147,5 +147,5 @@ module _ (sets : List Set) (entries : List Entry) (bytes : List ℕ) (e : ℕ) (
     pub is : {image table : List ℕ} {side : ℕ} → OnWalk image table side sets entries e env s
         → p ≡ read_each_a image table bytes side e (record_at table e) env s at
 
-  pub record OnRead (set s at : ℕ) (p : Progress) : Type 0 where
+  pub record EachOnRead (set s at : ℕ) (p : Progress) : Type 0 where
     pub is : {image table : List ℕ} {side : ℕ} → OnWalk image table side sets entries e env s → p ≡ read_each_on image table bytes side e env set s at

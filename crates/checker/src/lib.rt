@@ -21,7 +21,7 @@ use rules::Stop;
 use sets::Set;
 use steps::Steps;
 
-// The side that a certificate proves, or the first of the refusals 1 to 13, 20 to 25.
+// The side that a certificate proves, by the number that its header has and the demands speak of, or the first of the refusals 1 to 13, 20 to 25.
 pub fn check(
     image: &[u8],
     table: &[u8],

@@ -67,7 +67,7 @@ pub(crate) struct Steps<'a> {
 
 impl Steps<'_> {
     ghost use Rattle.checker.specs.Cause.{told};
-    ghost use Rattle.checker.specs.Reading.{Allowed, EachRead, FormulaRead, Handed, OnRead, Started, WalkRead, Walking};
+    ghost use Rattle.checker.specs.Reading.{Allowed, EachRead, FormulaRead, Handed, EachOnRead, Started, WalkRead, Walking};
 
     // The stage at which the walk of an entry's formula starts: that of a modality's term; of another formula, 0.
     fn start(&self, e: u8, env: Env) -> u8
@@ -208,7 +208,7 @@ impl Steps<'_> {
     #[inline(always)]
     fn on_at_each(&self, e: u8, env: Env, met: Set, s: u8, at: &mut usize) -> Result<(), Cause>
         requires { Walking self.now.sets.now self.now.entries.now e (env_of env) s × (Has (number met) s → ⊥) }
-        ensures { OnRead self.now.sets.now self.now.entries.now self.now.bytes.now e (env_of env) (number met) s at.old (told result at.new) }
+        ensures { EachOnRead self.now.sets.now self.now.entries.now self.now.bytes.now e (env_of env) (number met) s at.old (told result at.new) }
     {
         let k = index(s);
         let longer = met.with(k);

@@ -1,4 +1,5 @@
-// The static library of the crate `deadends`, for callers in C: the one exported function calls the library's, under the same clause.
+// The static library of the crate `deadends`, for callers in C: the one exported function calls the library's, under the same clause. A crate of its own, since a
+// crate is a library or a static library, and nothing can depend on the latter.
 #![tactic(auto)]
 
 ghost use Rattle.deadends.specs.Report.{CodedReport};

@@ -20,7 +20,7 @@ pub const SETS: usize = 17 * NEXT;
 pub const ENTRIES: usize = 64;
 
 // An entry that is prepared on a side: its record, with the kind that it has there; and of an atom's predicate the arity and the number of its first set,
-// which of other kinds are 0. The kind is a number, since every table is prepared, and a record may have any.
+// which of other kinds are 0. The kind is its number, by which a step's head is read.
 #[derive(Clone, Copy, Default)]
 pub struct Entry {
     pub kind: u8,

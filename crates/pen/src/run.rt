@@ -11,7 +11,7 @@ use hand::setup::{ENTRIES, Entry};
 use verdict::setup::Setup;
 
 // What is the same for a whole run: a setup whose row holds the successor sets of a readable graph, the entries of its table, prepared on the side that the
-// certificate proves, and whether the bytes go to the buffer or are only counted.
+// certificate proves, and whether the bytes go to the buffer or are only counted: a flag and no closure, as the clause of `whole` goes by it.
 #[derive(Clone, Copy)]
 pub struct Run<'a> {
     pub setup: Setup<'a>,
