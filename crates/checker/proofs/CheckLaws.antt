@@ -1,6 +1,6 @@
 -- What a check answers, from what its parts say.
 --
---     small-setup, setup-lent, goal-hand, question-hand
+--     small-setup, setup-lent, question-lent, question-hand
 --                                      what the readers of steps go by holds of a setup that is not refused
 --     by-given                         the steps of a question by its own goal and start
 --     reading-is, missing, wrong, fails, remain, whole
@@ -78,7 +78,7 @@ module _ (image table : List ℕ) (clear : Clear (setup_conditions image table))
 
   pub small-setup : Small image table
   small-setup = record {
-    graph = readable image (of_image image table clear);
+    inside = (readable image (of_image image table clear)).inside;
     stages = (sizes image (of_image image table clear)).stages;
     x = λ e. (both_small e).0;
     y = λ e. (both_small e).1;
@@ -97,30 +97,28 @@ setup-lent {image} {table} {m = m} clear count-is m-is empty none d first p =
       few = (ReadableLaws.entries image table (of-table image table clear)).most;
       entry = λ e h. p.entries e (omega arith)
           (omega (arith, (ReadableLaws.entries image table (of-table image table clear)).most)) (length-replicate most_entries first);
-      ruled = ruled image table clear;
+      ruled = λ bad. bad.broken (ruled image table clear bad.entry bad.below);
     }
 
--- The goal is in hand, with variable 0 at the start and the others at stage 0.
-goal-hand : {image table : List ℕ} {sets : List Set} {entries : List Entry} {goal start side : ℕ} → Clear (question_conditions image table goal start)
-    → Lent image table side sets entries → InHand image table side sets entries goal (env_of (record { slots = start ∷ 0 ∷ 0 ∷ 0 ∷ [] }))
-goal-hand {image} {table} {goal = goal} {start = start} clear lent = record {
-  lent = lent;
-  below = goal-below image table goal start clear;
-  inside = λ v. subst (λ (c : Env). c v < stages_of image) (sym (start-env start)) (picked (eqb v 0));
-}
-  where
-    picked : (b : Bool) → pick b start 0 < stages_of image
-    picked true = start-below image table goal start clear
-    picked false = omega (arith, lent.some)
+module _ {image table : List ℕ} {q : Question} (read : QuestionRead image table q.goal q.start q) where
+  -- So it is for a question that was read.
+  pub question-lent : {sets : List Set} {entries : List Entry} {side : ℕ} (empty : Set) → of_set empty ≡ 0
+      → Decoded image q.shape.image.sets (replicate 1088 empty) sets
+      → (first : Entry) → Prepared image table q.shape.entries side (replicate most_entries first) entries → Lent image table side sets entries
+  question-lent empty none d first p =
+      setup-lent (of-setup image table q.goal q.start read.clear) (ap (λ (r : Question). r.shape.image.sets) read.is)
+      (ap (λ (r : Question). r.shape.entries) read.is) empty none d first p
 
--- So it is for a question that was read.
-pub question-hand : {image table : List ℕ} {sets : List Set} {entries : List Entry} {side : ℕ} {q : Question} → QuestionRead image table q.goal q.start q
-    → (empty : Set) → of_set empty ≡ 0 → Decoded image q.shape.image.sets (replicate 1088 empty) sets
-    → (first : Entry) → Prepared image table q.shape.entries side (replicate most_entries first) entries
-    → InHand image table side sets entries q.goal (env_of (record { slots = q.start ∷ 0 ∷ 0 ∷ 0 ∷ [] }))
-question-hand {image} {table} {q = q} read empty none d first p =
-    goal-hand read.clear (setup-lent (of-setup image table q.goal q.start read.clear) (ap (λ (r : Question). r.shape.image.sets) read.is)
-    (ap (λ (r : Question). r.shape.entries) read.is) empty none d first p)
+  -- Its goal is in hand, with variable 0 at the start and the others at stage 0.
+  pub question-hand : InHand image table q.goal (env_of (record { slots = q.start ∷ 0 ∷ 0 ∷ 0 ∷ [] }))
+  question-hand = record {
+    below = goal-below image table q.goal q.start read.clear;
+    inside = λ v. subst (λ (c : Env). c v < stages_of image) (sym (start-env q.start)) (picked (eqb v 0));
+  }
+    where
+      picked : (b : Bool) → pick b q.start 0 < stages_of image
+      picked true = start-below image table q.goal q.start read.clear
+      picked false = omega (arith, (sizes image (of_image image table (of-setup image table q.goal q.start read.clear))).some)
 
 -- A question that was read is one by its own goal and start, which are those that were given.
 module _ {image table : List ℕ} {goal start : ℕ} {q : Question} (read : QuestionRead image table goal start q) where

@@ -2,7 +2,6 @@
 -- reads at each successor, ascending, as the rules' `through` does.
 --
 --     Turns                the invariant: the successors below a number are read, and those from there on are left
---     turn-of              a turn, from what the contracts of `is_empty`, `lowest` and `rest` say
 --     each_start, each-stage, each_next, each-end
 --                          the loop over the successors of a stage of an image
 --     each-stops           a fault on the way is the loop's answer
@@ -17,13 +16,18 @@ use lib.Dec.{T}
 use Rattle.sets.specs.Walk.{Turn}
 use Rattle.sets.specs.Member.{Has, Empty}
 use Rattle.sets.specs.Number.{width}
+use Rattle.sets.specs.Row.{held}
+use Rattle.sets.specs.declared.Set.{Set}
+use Rattle.std.specs.Prelude.{Err}
+use Rattle.rules.specs.declared.Stop.{Stop}
 use Rattle.sets.proofs.LawsMember.{has-test, empty-zero, side?}
-use Rattle.sets.proofs.LawsLowest.{lowest-le, lowest-lt, lowest-has, has_rest, rest-small}
+use Rattle.sets.proofs.LawsLowest.{lowest-le, lowest-has, has_rest, rest-small}
 use Rattle.format.specs.Image.{stages_of, member, graph_of}
 use Rattle.rules.specs.Reading.{Reader, onward, visit, through, Progress}
 use Rattle.rules.proofs.Faults.{skipped}
-use Rattle.hand.specs.Hand.{SuccessorsOf}
-use Rattle.checker.specs.Reading.{Small}
+use Rattle.hand.specs.declared.setup.Entry.{Entry}
+use Rattle.hand.proofs.SetupLaws.{next-set}
+use Rattle.checker.specs.Reading.{Lent}
 use Rattle.checker.proofs.ReadingLaws.{nothing, in-turn}
 
 -- Below n: the successors below `from` are read, and those from there on are left.
@@ -55,9 +59,9 @@ module _ (n : ℕ) (next : ℕ → Bool) (inside : (t : ℕ) → T (next t) → 
     there : Has left k
     there = subst (Has left) (sym turn.lowest) (lowest-has width left some g.small)
 
-    -- The stage of a turn is a successor, below the width.
-    turn-stage : T (next k) × (k < width)
-    turn-stage = (((g.rest k).0 there).0, omega (arith, turn.lowest, lowest-lt width left some g.small))
+    -- The stage of a turn is a successor.
+    turn-stage : T (next k)
+    turn-stage = ((g.rest k).0 there).0
 
     -- Between the last turn and this there is none.
     none_between : (t : ℕ) → g.from ≤ t → t < k → next t ≡ false
@@ -78,7 +82,7 @@ module _ (n : ℕ) (next : ℕ → Bool) (inside : (t : ℕ) → T (next t) → 
     turns_next : {p : Progress} → p ≡ onward here (read k) → Turns n next read came left' p
     turns_next {p} p-is = record {
       from = suc k;
-      within = inside k turn-stage.0;
+      within = inside k turn-stage;
       small = subst (λ (z : ℕ). z < 2 ^ width) (sym turn.others) (rest-small width left g.small);
       rest = λ t. (
         λ h.
@@ -92,7 +96,7 @@ module _ (n : ℕ) (next : ℕ → Bool) (inside : (t : ℕ) → T (next t) → 
       );
       reads =
           in-turn came (through g.from next read) (read k) g.reads p-is
-          ∙ ap (onward came) (fun_ext (λ at. ap₂ onward (sym (up-to-here at)) (sym (visited (next k) (read k) turn-stage.0))));
+          ∙ ap (onward came) (fun_ext (λ at. ap₂ onward (sym (up-to-here at)) (sym (visited (next k) (read k) turn-stage))));
     }
 
   -- At the end there is none left, and all are read.
@@ -121,26 +125,27 @@ module _ (n : ℕ) (next : ℕ → Bool) (inside : (t : ℕ) → T (next t) → 
 
 -- ---- the successors of a stage
 
-module _ {image table : List ℕ} (small : Small image table) (s : ℕ) (read : ℕ → Reader) (came : Progress) where
-  abbrev pub Each : ℕ → Progress → Type 0
+module _ {image table : List ℕ} {sets : List Set} {entries : List Entry} {side : ℕ} (lent : Lent image table side sets entries) (s : ℕ) (read : ℕ → Reader) (came : Progress) where
+  abbrev Each : ℕ → Progress → Type 0
   Each left here = Turns (stages_of image) ((graph_of image).next s) read came left here
 
   inside : (t : ℕ) → T ((graph_of image).next s t) → t < stages_of image
-  inside t h = (small.graph.inside s t h).1
+  inside t h = (lent.small.inside s t h).1
 
-  pub each_start : {left : ℕ} → left < 2 ^ width → SuccessorsOf image s left → Each left came
-  each_start h f = turns-start (stages_of image) ((graph_of image).next s) inside read came h f.each
+  -- The successors that are left of a row's set are those of the stage.
+  pub each_start : {k left : ℕ} → left < 2 ^ width → s < stages_of image → k ≡ s → left ≡ held sets k → Each left came
+  each_start h stage k-is is =
+      turns-start (stages_of image) ((graph_of image).next s) inside read came h (next-set lent.all stage (is ∙ ap (held sets) k-is)).each
 
   module _ {left k left' : ℕ} {here : Progress} (g : Each left here) (turn : Turn left k left') where
-    pub each-stage : T ((graph_of image).next s k) × (k < width)
+    pub each-stage : T ((graph_of image).next s k)
     each-stage = turn-stage (stages_of image) ((graph_of image).next s) inside read came g turn
 
     pub each_next : {p : Progress} → p ≡ onward here (read k) → Each left' p
     each_next e = turns_next (stages_of image) ((graph_of image).next s) inside read came g turn e
 
+    pub each-stops : {stop : Stop} → Err stop ≡ onward here (read k) → Err stop ≡ onward came (through (stages_of image) ((graph_of image).next s) read)
+    each-stops e = turns-stop (stages_of image) ((graph_of image).next s) inside read came (each_next e) (λ k. refl)
+
   pub each-end : {left : ℕ} {here : Progress} → Each left here → Empty left → here ≡ onward came (through (stages_of image) ((graph_of image).next s) read)
   each-end g none = turns-end (stages_of image) ((graph_of image).next s) inside read came g none
-
-  pub each-stops : {left : ℕ} {here : Progress} → Each left here → ((k : Reader) → onward here k ≡ here)
-      → here ≡ onward came (through (stages_of image) ((graph_of image).next s) read)
-  each-stops g stays = turns-stop (stages_of image) ((graph_of image).next s) inside read came g stays

@@ -9,7 +9,6 @@ pub mod EachLaws
 pub mod StartLaws
 pub mod ArmLaws
 pub mod LeafLaws
-pub mod LoopLaws
 pub mod CheckLaws
 pub mod ByteLaws
 pub mod CertificateLaws

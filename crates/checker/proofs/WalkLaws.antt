@@ -20,7 +20,7 @@ use Rattle.sets.proofs.LawsMember.{same?, has?, has-with, within-lt}
 use Rattle.sets.proofs.LawsCount.{ones-with, ones_lt}
 use Rattle.format.specs.Image.{member, graph_of}
 use Rattle.format.specs.Table.{tree_of}
-use Rattle.rules.specs.Reading.{read_walk}
+use Rattle.rules.specs.Reading.{read_walk, Progress}
 use Rattle.hand.specs.Side.{sided}
 use Rattle.checker.specs.Reading.{walk_of, read_along, read_on}
 
@@ -33,7 +33,10 @@ member-lacks s k f = ne_eqb (bit s k) 1 f
 
 -- ---- one stage more
 
-module _ {set s : ℕ} (small : set < 2 ^ width) (room : s < width) (off : Has set s → ⊥) {longer : ℕ} (is : longer ≡ bit_or set (single s)) where
+module _ {set k s : ℕ} (small : set < 2 ^ width) (room : s < width) (off : Has set s → ⊥) (k-is : k ≡ s) {longer : ℕ} (with-k : longer ≡ bit_or set (single k)) where
+  is : longer ≡ bit_or set (single s)
+  is = with-k ∙ ap (λ (j : ℕ). bit_or set (single j)) k-is
+
   pub grows : (ones longer ≡ suc (ones set)) × (ones set < width)
   grows = (ap ones is ∙ ones-with set s room off, ones_lt set width s ((within-lt set width).1 small) room off)
 
@@ -60,9 +63,9 @@ module _ {set s : ℕ} (small : set < 2 ^ width) (room : s < width) (off : Has s
           ∙ ap (λ (b : Bool). b || member set t) (sym (ne_eqb t s n))
 
   -- The walk is read as the rules' walk with s added, and its fuel is one less.
-  pub along-on : (image table bytes : List ℕ) (side e : ℕ) (env : Env) (t : ℕ)
-      → read_along image table bytes side e env longer t ≡ read_on image table bytes side e env set s t
+  pub along-on : (image table bytes : List ℕ) (side e : ℕ) (env : Env) (t at : ℕ) {p : Progress}
+      → p ≡ read_along image table bytes side e env longer t at → p ≡ read_on image table bytes side e env set s t at
   unfolding read_along read_on
-  along-on image table bytes side e env t =
+  along-on image table bytes side e env t at p-is =
       let fuel : suc (width - ones longer) ≡ width - ones set = omega (arith, grows.0, grows.1) in
-      ap₂ (λ (n : ℕ) (w : Walk). read_walk width (graph_of image) bytes (sided side (tree_of image table e)) env n w t) fuel walk-on
+      p-is ∙ ap₂ (λ (n : ℕ) (w : Walk). read_walk width (graph_of image) bytes (sided side (tree_of image table e)) env n w t at) fuel walk-on

@@ -2,18 +2,17 @@
 -- formula that an entry of the table has on a side, with the walk held as a set. Nothing that document 01 states is defined here.
 use Rattle.hand.specs.declared.setup.Entry.{Entry}
 use Rattle.sets.specs.declared.Set.{Set}
-use Rattle.std.specs.Prelude.{ℕ, suc, ◌-◌, ◌≤◌, ◌<◌, ◌≡◌, Bool, true, false, ◌&&◌, List, ltb}
+use Rattle.std.specs.Prelude.{ℕ, suc, ◌-◌, ◌≤◌, ◌<◌, ◌≡◌, Bool, true, false, ◌&&◌, List, T, ltb}
 use Rattle.std.specs.Int.Count.{ones}
-use Rattle.model.specs.Graph.{Readable}
 use Rattle.model.specs.Formula.{Env, bind, pick, value}
 use Rattle.logic.specs.Rules.{Walk, also}
 use Rattle.sets.specs.Number.{width}
 use Rattle.format.specs.Image.{stages_of, member, graph_of}
-use Rattle.format.specs.Table.{entries_of, record_at, nth, trees, tree_of, term_of, Ruled}
+use Rattle.format.specs.Table.{entries_of, record_at, nth, trees, tree_of, term_of, BadRecord}
 use Rattle.format.specs.declared.record.Record.{Record}
 use Rattle.rules.specs.Kind.{Kind}
-use Rattle.rules.specs.Table.{row, body, kind_for, Part}
-use Rattle.rules.specs.Reading.{Reader, leads, meets, parts, through, read_premises, read_walk, read_formula, Progress}
+use Rattle.rules.specs.Table.{row, body, Part}
+use Rattle.rules.specs.Reading.{Reader, leads, meets, parts, through, read_premises, read_walk, read_formula}
 use Rattle.rules.specs.declared.Rule.{Rule}
 use Rattle.hand.specs.Side.{sided}
 use Rattle.hand.specs.Setup.{AllSets, most_entries, entry_at, entry_of}
@@ -22,7 +21,7 @@ use Rattle.hand.specs.Hand.{atom_in}
 -- What the readers go by, which holds of a setup that is not refused: edges join stages, for each of which a set has room, and x and y are
 -- variables 0 to 3.
 pub record Small (image table : List ℕ) : Type 0 where
-  pub graph : Readable (graph_of image)
+  pub inside : (s t : ℕ) → T ((graph_of image).next s t) → (s < stages_of image) × (t < stages_of image)
   pub stages : stages_of image ≤ width
   pub x : (e : ℕ) → (record_at table e).x < 4
   pub y : (e : ℕ) → (record_at table e).y < 4
@@ -100,52 +99,17 @@ pub record Lent (image table : List ℕ) (side : ℕ) (sets : List Set) (entries
   pub all : AllSets image sets
   pub few : entries_of table ≤ most_entries
   pub entry : (e : ℕ) → e < entries_of table → entry_at entries e ≡ entry_of image side (record_at table e)
-  pub ruled : (e : ℕ) → e < entries_of table → Ruled image e (record_at table e)
+  pub ruled : BadRecord image table → ⊥
 
--- An entry's formula is in hand, with every variable at a stage; and it stands at a stage of its walk.
-pub record InHand (image table : List ℕ) (side : ℕ) (sets : List Set) (entries : List Entry) (e : ℕ) (env : Env) : Type 0 where
-  pub lent : Lent image table side sets entries
+-- What a reader asks. An entry's formula is in hand, with every variable at a stage; and it stands at a stage of its walk.
+pub record InHand (image table : List ℕ) (e : ℕ) (env : Env) : Type 0 where
   pub below : e < entries_of table
   pub inside : (v : ℕ) → env v < stages_of image
 
-pub record OnWalk (image table : List ℕ) (side : ℕ) (sets : List Set) (entries : List Entry) (e : ℕ) (env : Env) (s : ℕ) : Type 0 where
-  pub hand : InHand image table side sets entries e env
+pub record OnWalk (image table : List ℕ) (e : ℕ) (env : Env) (s : ℕ) : Type 0 where
+  pub hand : InHand image table e env
   pub stage : s < stages_of image
-  pub deep : 4 ≤ (entry_at entries e).kind
-
--- The same of some setup: what a reader asks. It answers for every setup of which it is so.
-pub record Handed (sets : List Set) (entries : List Entry) (e : ℕ) (env : Env) : Type 0 where
-  pub image : List ℕ
-  pub table : List ℕ
-  pub side : ℕ
-  pub hand : InHand image table side sets entries e env
-
-pub record Walking (sets : List Set) (entries : List Entry) (e : ℕ) (env : Env) (s : ℕ) : Type 0 where
-  pub image : List ℕ
-  pub table : List ℕ
-  pub side : ℕ
-  pub walk : OnWalk image table side sets entries e env s
 
 -- The stage at which a walk starts, by an entry's kind and term.
 pub record Started (kind t : ℕ) (env : Env) (s : ℕ) : Type 0 where
   pub is : s ≡ pick (ltb kind 6) 0 (value env (term_of t))
-
--- Whether the own condition of a rule that is for the entry's formula holds, at the stage s of a walk.
-pub record Allowed (sets : List Set) (entries : List Entry) (e : ℕ) (env : Env) (rule : Rule) (set s : ℕ) (b : Bool) : Type 0 where
-  pub is : {image table : List ℕ} {side : ℕ} → InHand image table side sets entries e env → s < stages_of image → kind_for rule ≡ (entry_at entries e).kind
-      → b ≡ allows image (record_at table e) env set s rule
-
--- How far the readers come, from a place on: of an entry; of a walk; of a at each successor of a stage; of the walk, with the stage added, at each.
-module _ (sets : List Set) (entries : List Entry) (bytes : List ℕ) (e : ℕ) (env : Env) where
-  pub record FormulaRead (at : ℕ) (p : Progress) : Type 0 where
-    pub is : {image table : List ℕ} {side : ℕ} → InHand image table side sets entries e env → p ≡ read_entry image table bytes side e env at
-
-  pub record WalkRead (set s at : ℕ) (p : Progress) : Type 0 where
-    pub is : {image table : List ℕ} {side : ℕ} → OnWalk image table side sets entries e env s → p ≡ read_along image table bytes side e env set s at
-
-  pub record EachRead (s at : ℕ) (p : Progress) : Type 0 where
-    pub is : {image table : List ℕ} {side : ℕ} → OnWalk image table side sets entries e env s
-        → p ≡ read_each_a image table bytes side e (record_at table e) env s at
-
-  pub record EachOnRead (set s at : ℕ) (p : Progress) : Type 0 where
-    pub is : {image table : List ℕ} {side : ℕ} → OnWalk image table side sets entries e env s → p ≡ read_each_on image table bytes side e env set s at

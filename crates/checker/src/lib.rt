@@ -74,6 +74,9 @@ fn steps_of(image: &[u8], table: &[u8], certificate: &[u8], q: Question) -> Resu
         sets: &all,
         entries: &entries,
         bytes: certificate,
+        image,
+        table,
+        side,
     };
     match steps.read(q.goal, env, header::BYTES) {
         Ok(end) if end < certificate.len() => Err(Fault {

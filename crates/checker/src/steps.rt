@@ -8,8 +8,11 @@ ghost use Rattle.model.specs.Decides.{Decides};
 ghost use Rattle.sets.specs.Member.{Has};
 ghost use Rattle.sets.specs.Number.{number, width};
 ghost use Rattle.sets.specs.Row.{held};
+ghost use Rattle.format.specs.Table.{record_at};
+ghost use Rattle.rules.specs.Table.{kind_for};
 ghost use Rattle.hand.specs.Environment.{Bound, env_of};
 ghost use Rattle.hand.specs.Setup.{entry_at, most_entries};
+ghost use Rattle.checker.specs.Reading.{InHand, Lent, OnWalk, Started};
 
 use hand::env::Env;
 use hand::setup::Entry;
@@ -57,17 +60,23 @@ fn fresh_walk() -> Set
     Set::empty()
 }
 
-// What the readers go by: the sets of an image, the entries of its table on a side, and the bytes of a certificate.
+// What the readers go by: the sets of an image, the entries of its table on a side, and the bytes of a certificate. No step reads the image, the table and the
+// side: they are here for the contracts, and for what is known of the sets and the entries, that they are those of a setup that was read. They stand last, so
+// that the steps compile to the same instructions as without them.
 #[derive(Clone, Copy)]
 pub(crate) struct Steps<'a> {
     pub sets: &'a [Set; setup::SETS],
     pub entries: &'a [Entry; setup::ENTRIES],
     pub bytes: &'a [u8],
+    pub image: &'a [u8],
+    pub table: &'a [u8],
+    pub side: u8,
+    pub ghost lent: { Lent image.now table.now side sets.now entries.now },
 }
 
 impl Steps<'_> {
     ghost use Rattle.checker.specs.Cause.{told};
-    ghost use Rattle.checker.specs.Reading.{Allowed, EachRead, FormulaRead, Handed, EachOnRead, Started, WalkRead, Walking};
+    ghost use Rattle.checker.specs.Reading.{allows, read_along, read_each_a, read_each_on, read_entry};
 
     // The stage at which the walk of an entry's formula starts: that of a modality's term; of another formula, 0.
     fn start(&self, e: u8, env: Env) -> u8
@@ -86,8 +95,8 @@ impl Steps<'_> {
     // As a call it took a fifth of a check of the AF tree, and `on_at_each` a twentieth.
     #[inline(always)]
     fn allows(&self, rule: Rule, e: u8, env: Env, met: Set, s: u8) -> bool
-        requires { (e < most_entries) × (s < width) }
-        ensures { Allowed self.now.sets.now self.now.entries.now e (env_of env) rule (number met) s result }
+        requires { OnWalk self.now.image.now self.now.table.now e (env_of env) s × (kind_for rule ≡ (entry_at self.now.entries.now e).kind) }
+        ensures { result ≡ allows self.now.image.now (record_at self.now.table.now e) (env_of env) (number met) s rule }
     {
         let k = index(s);
         match rule {
@@ -112,8 +121,8 @@ impl Steps<'_> {
 
     // The steps of an entry's formula, from a place on: the place after them, or why the reading stopped, and where.
     pub(crate) fn read(&self, e: u8, env: Env, from: usize) -> Result<usize, Stop>
-        requires { Handed self.now.sets.now self.now.entries.now e (env_of env) }
-        ensures { FormulaRead self.now.sets.now self.now.entries.now self.now.bytes.now e (env_of env) from result }
+        requires { InHand self.now.image.now self.now.table.now e (env_of env) }
+        ensures { result ≡ read_entry self.now.image.now self.now.table.now self.now.bytes.now self.now.side e (env_of env) from }
     {
         let mut at = from;
         match self.formula(e, env, &mut at) {
@@ -127,8 +136,8 @@ impl Steps<'_> {
     // An entry's formula, from the start of its walk.
     #[cycle(formula_walk)]
     fn formula(&self, e: u8, env: Env, at: &mut usize) -> Result<(), Cause>
-        requires { Handed self.now.sets.now self.now.entries.now e (env_of env) }
-        ensures { FormulaRead self.now.sets.now self.now.entries.now self.now.bytes.now e (env_of env) at.old (told result at.new) }
+        requires { InHand self.now.image.now self.now.table.now e (env_of env) }
+        ensures { told result at.new ≡ read_entry self.now.image.now self.now.table.now self.now.bytes.now self.now.side e (env_of env) at.old }
     {
         if self.entries[e as usize].kind < 4 {
             return self.leaf(e, env, at);
@@ -138,8 +147,8 @@ impl Steps<'_> {
 
     // "True", "false" or an atom: one step with no premises, so that there is no walk. For "false" there is no rule.
     fn leaf(&self, e: u8, env: Env, at: &mut usize) -> Result<(), Cause>
-        requires { Handed self.now.sets.now self.now.entries.now e (env_of env) × ((entry_at self.now.entries.now e).kind < 4) }
-        ensures { FormulaRead self.now.sets.now self.now.entries.now self.now.bytes.now e (env_of env) at.old (told result at.new) }
+        requires { InHand self.now.image.now self.now.table.now e (env_of env) × ((entry_at self.now.entries.now e).kind < 4) }
+        ensures { told result at.new ≡ read_entry self.now.image.now self.now.table.now self.now.bytes.now self.now.side e (env_of env) at.old }
     {
         let Step { rule, next } = rules::read_head(self.bytes, *at, self.entries[e as usize].kind)?;
         if !self.allows(rule, e, env, fresh_walk(), 0) {
@@ -153,8 +162,9 @@ impl Steps<'_> {
     // as each premise has others of them.
     #[cycle(formula_walk)]
     fn walk(&self, e: u8, env: Env, met: Set, s: u8, at: &mut usize) -> Result<(), Cause>
-        requires { Walking self.now.sets.now self.now.entries.now e (env_of env) s }
-        ensures { WalkRead self.now.sets.now self.now.entries.now self.now.bytes.now e (env_of env) (number met) s at.old (told result at.new) }
+        requires { OnWalk self.now.image.now self.now.table.now e (env_of env) s }
+        ensures { told result at.new
+            ≡ read_along self.now.image.now self.now.table.now self.now.bytes.now self.now.side e (env_of env) (number met) s at.old }
     {
         let f = &self.entries[e as usize];
         let Step { rule, next } = rules::read_head(self.bytes, *at, f.kind)?;
@@ -193,8 +203,9 @@ impl Steps<'_> {
     // The entry's a at each successor of s, ascending. With `on_at_each` it has only the loop's head in common.
     #[cycle(formula_walk)]
     fn at_each(&self, e: u8, env: Env, s: u8, at: &mut usize) -> Result<(), Cause>
-        requires { Walking self.now.sets.now self.now.entries.now e (env_of env) s × ((entry_at self.now.entries.now e).a < e) }
-        ensures { EachRead self.now.sets.now self.now.entries.now self.now.bytes.now e (env_of env) s at.old (told result at.new) }
+        requires { OnWalk self.now.image.now self.now.table.now e (env_of env) s × ((record_at self.now.table.now e).a < e) }
+        ensures { told result at.new
+            ≡ read_each_a self.now.image.now self.now.table.now self.now.bytes.now self.now.side e (record_at self.now.table.now e) (env_of env) s at.old }
     {
         let f = &self.entries[e as usize];
         for t in setup::set(self.sets, index(s)).stages() {
@@ -207,8 +218,9 @@ impl Steps<'_> {
     #[cycle(formula_walk)]
     #[inline(always)]
     fn on_at_each(&self, e: u8, env: Env, met: Set, s: u8, at: &mut usize) -> Result<(), Cause>
-        requires { Walking self.now.sets.now self.now.entries.now e (env_of env) s × (Has (number met) s → ⊥) }
-        ensures { EachOnRead self.now.sets.now self.now.entries.now self.now.bytes.now e (env_of env) (number met) s at.old (told result at.new) }
+        requires { OnWalk self.now.image.now self.now.table.now e (env_of env) s × (Has (number met) s → ⊥) }
+        ensures { told result at.new
+            ≡ read_each_on self.now.image.now self.now.table.now self.now.bytes.now self.now.side e (env_of env) (number met) s at.old }
     {
         let k = index(s);
         let longer = met.with(k);

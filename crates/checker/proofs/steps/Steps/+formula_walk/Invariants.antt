@@ -4,7 +4,11 @@ use Prim.Native.Nat.{ℕ, ◌+◌, ◌*◌, ◌-◌}
 use lib.Count.{ones}
 use Rattle.sets.specs.Number.{number, width}
 use Rattle.hand.specs.Environment.{env_of}
-use Rattle.checker.proofs.LoopLaws.{Loop, a_of, walk-of}
+use Rattle.std.specs.Prelude.{Ok}
+use Rattle.format.specs.Image.{stages_of, graph_of}
+use Rattle.format.specs.Table.{record_at}
+use Rattle.checker.specs.Reading.{read_a, read_on}
+use Rattle.checker.proofs.EachLaws.{Turns}
 use Rattle.checker.proofs.steps.Steps.+formula_walk.Given as goal
 
 -- How deep the reading of entry e along a walk may go.
@@ -24,7 +28,13 @@ abbrev pub decreases-formula : goal.decreases-formula
 decreases-formula l = 200 * l.e + 131
 
 abbrev pub invariant-at_each-loop-t : goal.invariant-at_each-loop-t
-invariant-at_each-loop-t l = Loop (a_of l.self.bytes.now l.e (env_of l.env)) l.self.sets.now l.self.entries.now l.e (env_of l.env) l.s l.fn.at (number l.t-iterator.left) l.at
+invariant-at_each-loop-t l =
+    Turns (stages_of l.self.image.now) ((graph_of l.self.image.now).next l.s)
+    (λ t. read_a l.self.image.now l.self.table.now l.self.bytes.now l.self.side l.e (record_at l.self.table.now l.e) (env_of l.env) t)
+    (Ok l.fn.at) (number l.t-iterator.left) (Ok l.at)
 
 abbrev pub invariant-on_at_each-loop-t : goal.invariant-on_at_each-loop-t
-invariant-on_at_each-loop-t l = Loop (walk-of l.self.bytes.now l.e (env_of l.env) (number l.fn.met) l.s) l.self.sets.now l.self.entries.now l.e (env_of l.env) l.s l.fn.at (number l.t-iterator.left) l.at
+invariant-on_at_each-loop-t l =
+    Turns (stages_of l.self.image.now) ((graph_of l.self.image.now).next l.s)
+    (λ t. read_on l.self.image.now l.self.table.now l.self.bytes.now l.self.side l.e (env_of l.env) (number l.fn.met) l.s t)
+    (Ok l.fn.at) (number l.t-iterator.left) (Ok l.at)

@@ -3,7 +3,7 @@ use Rattle.checker.proofs.ConditionLaws.{holds-allowed, not-allowed}
 use Rattle.checker.proofs.steps.Steps.allows.Goals as goal
 
 pub returns-in-Holds : goal.returns-in-Holds
-returns-in-Holds c = holds-allowed c.atom.ensures _ _ c.in-Holds.is
+returns-in-Holds c = holds-allowed c.args.self.now.lent c.requires.0.hand c.atom.ensures c.requires.1 _ _ c.in-Holds.is
 
 pub returns-in-HoldsNot : goal.returns-in-HoldsNot
-returns-in-HoldsNot c = not-allowed c.atom-in-HoldsNot.ensures _ _ c.in-HoldsNot.is
+returns-in-HoldsNot c = not-allowed c.args.self.now.lent c.requires.0.hand c.atom-in-HoldsNot.ensures c.requires.1 _ _ c.in-HoldsNot.is
