@@ -16,6 +16,8 @@
 --     Derivation, certificate_of, Certifies   what derives a side by the seventeen rules; its header and steps; that bytes are these   checker
 --     Ours                          every rule of a derivation is the one that "The certificate we write" names               written
 --     side_for, certificate          what the writer's contract names, which Demand 2 pins down                                writer
+--     Written, written_as            what writing answers: the side that the certificate proves, and how many bytes it takes   writer
+--     Result, Option                 the library's: `Ok` of what is answered or `Err` of the refusal; `Some` of a length, or none
 --
 -- The services are functions that are proved to meet these contracts on every input, so that what is said of every answer that meets a contract is said of
 -- what they answer.
