@@ -5,6 +5,7 @@
 --     member-or, member-and, member-minus, member-none, member-all
 --     inside-or, inside-left, inside-right, inside-minus, inside-all
 --     some-member                               a set that is not empty has a member
+--     same-within, same_not                     when a set that lies in another is the other
 --     Agree, computes-as                        tests that are the same below n; a set worked out for one is worked out for the other
 --     clip-agrees                               what a set has below n
 --
@@ -21,13 +22,14 @@ use lib.Bits.{bit_and, bit_or}
 use lib.Count.{ones}
 use lib.Dec.{T}
 use borrow.Author.Tests.{eq-eqb, ne_eqb}
+use Rattle.model.specs.Decides.{Decides}
 use Rattle.model.specs.Graph.{Graph}
 use Rattle.logic.proofs.Booleans.{T_not, and-says, or-says, same_test}
 use Rattle.logic.specs.Test.{Stages}
-use Rattle.sets.specs.Member.{bit, Has, Empty}
+use Rattle.sets.specs.Member.{bit, Has, Within, Empty}
 use Rattle.sets.specs.Number.{width}
 use Rattle.sets.proofs.LawsBit.{bit_below}
-use Rattle.sets.proofs.LawsMember.{has-test, has-or, has-and, has-minus, has-below, empty-zero}
+use Rattle.sets.proofs.LawsMember.{has-test, has-or, has-and, has-minus, has-below, empty-zero, within-refl, within-antisym}
 use Rattle.sets.proofs.LawsCount.{ones-zero, ones-some}
 use Rattle.modal.specs.Row.{member, Row, Inside, Computes}
 
@@ -100,6 +102,17 @@ inside-minus a b e f k h = f k ((has-minus a b k).0 (subst (λ (x : ℕ). Has x 
 
 pub inside-all : {n r : ℕ} → r ≡ below n → Inside n r
 inside-all {n} e k h = let l = (has-below (min n width) k).0 (subst (λ (x : ℕ). Has x k) e h) in omega arith
+
+-- ---- one set
+
+-- Where a lies in b, they are one if b lies in a too,
+pub same-within : (a b : ℕ) (r : Bool) → Within a b → Decides r (Within b a) → Decides r (a ≡ b)
+same-within a b true f d = within-antisym a b f d
+same-within a b false f d = λ e. d (subst (λ (x : ℕ). Within x a) e (within-refl a))
+
+-- and where it does not, they are two.
+pub same_not : (a b : ℕ) → (Within a b → ⊥) → a ≡ b → ⊥
+same_not a b f e = f (subst (Within a) e (within-refl a))
 
 -- ---- tests that agree
 

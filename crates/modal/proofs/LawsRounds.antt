@@ -5,6 +5,7 @@
 --     rounds-same                          and in as many rounds as there may be
 --     eg-turned, af-turned, ar-turned, eu-turned
 --                                          the round of each modality, worked out
+--     clip-inside                          what is below n of a set is inside the stages
 --     loop-start, loop-more                so many rounds of what a closure makes
 --     loop-rest                            a round that changes nothing ends the rounds
 --     all-rounds                           as many rounds as there are stages
@@ -113,6 +114,12 @@ module _ {next : List Set} {n x all asked found : ℕ} {y r : Set} (is : y ≡ r
   af-turned f e c g =
       rw is (turned af_round (λ G x y e. af-same G e) (λ i.
       computes-as (λ G R s h. ap (λ (b : Bool). member x s || (b && each_next G (member x) s)) (member-all f R.room s h)) (grown all x _ c e g i)))
+
+-- ---- where the rounds start
+
+-- What is below n of a set is inside the stages.
+pub clip-inside : {n all x : ℕ} (b : ℕ) → all ≡ below n → x ≡ bit_and b all → Inside n x
+clip-inside {all = all} b f e = inside-right b all e (inside-all f)
 
 -- ---- the loop
 

@@ -1,29 +1,70 @@
 -- Numbers that stand in bytes, big-endian, and the set that they store. That a slice of the code is bytes (`Bytes`) the borrow checker
 -- hands a proof where one is read: `λ i. (c.shared-slice-known.given i).fits`.
 --
---     stored-in, stored-out         a stored set, where its bytes are all there and where they are not
---     big_endian-eight              eight bytes are worth what the library says
---     piece-stored, piece-none      a set of those stored one after another, as a piece of the bytes from a place on
+--     big_endian-append, big_endian-lt     the first bytes are worth more by all that follow; k bytes are worth less than 256 ^ k
+--     bytes-part                           a part of a list of bytes is one
+--     stored-in, stored-out, stored-lt     a stored set, where its bytes are all there and where they are not; it fits the width
+--     big_endian-eight                     eight bytes are worth what the library says
+--     piece-stored, piece-none             a set of those stored one after another, as a piece of the bytes from a place on
 --
 -- Assumes nothing.
-use mathlib.Core.Path.{◌≡◌, refl, sym, ap, ◌∙◌}
+use mathlib.Core.Path.{◌≡◌, refl, sym, ap, ap₂, ◌∙◌, subst, subst₂}
 use mathlib.Core.Bool.{Bool}
-use mathlib.Core.List.{List, [], ◌∷◌}
-use Prim.Native.Nat.{ℕ, zero, suc, ◌+◌, ◌*◌, ◌/◌, ◌≤◌, ◌<◌}
-use native.Mathlib.Nat.{mul-zero}
+use mathlib.Core.List.{List, [], ◌∷◌, ◌++◌}
+use mathlib.Core.Logic.{⊎_elim}
+use Prim.Native.Nat.{ℕ, zero, suc, ◌+◌, ◌*◌, ◌/◌, ◌^◌, ◌≤◌, ◌<◌}
+use native.Mathlib.Nat.{mul-zero, mul_comm, pow-suc}
 use native.Mathlib.Omega.{arith}
 use borrow.Author.Tests.{le-leb, lt-leb}
-use lib.ListN.{length, get_or, take, drop, length-take, length-drop}
-use lib.Seq.{drop-drop, take-length}
+use lib.Arith.{digits_lt}
+use lib.ListN.{length, get_or, take, drop, length-take, length-drop, get_or-eq_default}
+use lib.Seq.{drop-drop, take-length, get_or-take, get_or-drop}
 use Rattle.std.specs.Int.{w64, from_be_bytes}
 use Rattle.std.specs.List.{slice_range}
 use Rattle.std.specs.Simd.{first_chunks}
 use Rattle.model.specs.Formula.{pick}
-use Rattle.sets.specs.Number.{size, big_endian, stored}
+use Rattle.sets.specs.Number.{width, size, big_endian_from, big_endian, stored}
+use Rattle.sets.proofs.LawsMember.{side?}
 
 -- every element is a byte; past the end stands 0
 abbrev pub Bytes : List ℕ → Type 0
 Bytes bs = (i : ℕ) → get_or bs i 0 < 256
+
+-- ---- big-endian
+
+from-append : (xs ys : List ℕ) (n : ℕ) → big_endian_from n (xs ++ ys) ≡ big_endian_from (big_endian_from n xs) ys
+from-append [] ys n = refl
+from-append (x ∷ xs) ys n = from-append xs ys (n * 256 + x)
+
+spread : (n b p r : ℕ) → (n * 256 + b) * p + r ≡ n * (p * 256) + ((0 * 256 + b) * p + r)
+spread n b p r = omega arith
+
+from-high : (bs : List ℕ) (n : ℕ) → big_endian_from n bs ≡ n * 256 ^ length bs + big_endian bs
+from-high [] n = omega arith
+from-high (b ∷ bs) n =
+    from-high bs (n * 256 + b) ∙ spread n b (256 ^ length bs) (big_endian bs)
+    ∙ ap₂ (λ (x y : ℕ). n * x + y) (sym (pow-suc 256 (length bs))) (sym (from-high bs (0 * 256 + b)))
+
+-- the first bytes are worth more by all that follow
+pub big_endian-append : (xs ys : List ℕ) → big_endian (xs ++ ys) ≡ big_endian xs * 256 ^ length ys + big_endian ys
+big_endian-append xs ys = from-append xs ys 0 ∙ from-high ys (big_endian xs)
+
+-- k bytes are worth less than 256 ^ k
+pub big_endian-lt : (bs : List ℕ) → Bytes bs → big_endian bs < 256 ^ length bs
+big_endian-lt [] f = omega arith
+big_endian-lt (b ∷ bs) f =
+    subst₂ (λ (x y : ℕ). x < y) (sym (from-high bs (0 * 256 + b))) (mul_comm 256 (256 ^ length bs) ∙ sym (pow-suc 256 (length bs)))
+    (digits_lt (omega (arith, f 0)) (big_endian-lt bs (λ i. f (suc i))))
+
+-- a part of a list of bytes is one
+pub bytes-part : (bs : List ℕ) (n at : ℕ) → Bytes bs → Bytes (take n (drop at bs))
+bytes-part bs n at f i =
+    ⊎_elim (λ l. subst (λ (x : ℕ). x < 256) (sym (get_or-take n (drop at bs) i 0 l ∙ get_or-drop at bs i 0)) (f (at + i)))
+    (λ o. subst (λ (x : ℕ). x < 256) (sym (get_or-eq_default (take n (drop at bs)) 0 (omega (arith, length-take n (drop at bs))))) (omega arith))
+    (side? i n)
+
+length_part : (bs : List ℕ) (n at : ℕ) → at + n ≤ length bs → length (take n (drop at bs)) ≡ n
+length_part bs n at h = omega (arith, length-take n (drop at bs), length-drop at bs)
 
 -- ---- a stored set
 
@@ -36,6 +77,18 @@ stored-in bs at h = ap (λ (t : Bool). pick t (big_endian (take size (drop at bs
 pub stored-out : (bs : List ℕ) (at : ℕ) → length bs < at + size → stored bs at ≡ 0
 unfolding stored
 stored-out bs at h = ap (λ (t : Bool). pick t (big_endian (take size (drop at bs))) 0) (lt-leb (at + size) (length bs) h)
+
+-- a stored set fits the width
+pub stored-lt : (bs : List ℕ) (at : ℕ) → Bytes bs → stored bs at < 2 ^ width
+stored-lt bs at f =
+    ⊎_elim (λ o. omega (arith, stored-out bs at o))
+    (λ h. omega (
+      arith,
+      stored-in bs at h,
+      big_endian-lt (take size (drop at bs)) (bytes-part bs size at f),
+      ap (λ (n : ℕ). 256 ^ n) (length_part bs size at h),
+    ))
+    (side? (length bs) (at + size))
 
 -- ---- the library's numbers
 

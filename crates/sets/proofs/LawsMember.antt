@@ -136,6 +136,10 @@ has-without s k j = (
 
 -- ---- one set in another; the empty set
 
+-- a set lies in itself
+pub within-refl : (a : ℕ) → Within a a
+within-refl a k h = h
+
 -- what lies in a part lies in the whole
 pub within-trans : (a b c : ℕ) → Within a b → Within b c → Within a c
 within-trans a b c f g k h = g k (f k h)

@@ -1,8 +1,8 @@
 -- A set as it is stored: the bytes that the library makes of its number, and reading the bytes back.
 --
---     bytes-same      the library's bytes are those of a stored set
---     front-once      one buffer has the set at its front
---     stored_back     what is read from such a buffer is the set
+--     bytes-same                  the library's bytes are those of a stored set
+--     front-none, front-once      no room for the set; one buffer has the set at its front
+--     stored_back                 what is read from such a buffer is the set
 --
 -- Assumes nothing.
 use Prim.Native.Nat.{ℕ, zero, suc, ◌/◌, ◌%◌, ◌^◌, ◌≤◌, ◌<◌}
@@ -31,6 +31,10 @@ bytes-same zero s = refl
 bytes-same (suc n) s = ap₂ ◌∷◌ (byte-same n s) (bytes-same n s)
 
 -- ---- a buffer
+
+-- Where there is no room nothing is stored.
+pub front-none : (before : List ℕ) (s : ℕ) → length before < size → AtFront before s before
+front-none before s h = record { room = λ g. absurd (omega arith); none = λ g. refl }
 
 -- Two buffers with one set at the front of one buffer are one.
 pub front-once : {before a b : List ℕ} {s : ℕ} → AtFront before s a → AtFront before s b → a ≡ b

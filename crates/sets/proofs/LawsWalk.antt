@@ -1,18 +1,19 @@
 -- A walk over the members of a set, lowest first, as `Set::stages` goes: k is the lowest of what is left, something is done with k, and the
--- others are left. `ones left` falls (`walk-falls`). The invariant of a walk that gathers the members that pass a test, which is any function to
--- 0 and 1 (`Gathered`). Each law takes what the contracts of `is_empty`, `lowest`, `rest` and `with` say of the numbers before and after a turn
--- (primed).
+-- others are left. What comes next of one set is one (`next-once`), and `ones left` falls (`walk-falls`). Two invariants: one of a walk that gathers
+-- the members that pass a test, which is any function to 0 and 1 (`Gathered`), and one of a walk that shows a property of each member (`Shown`).
+-- Each law takes what the contracts of `is_empty`, `lowest`, `rest` and `with` say of the numbers before and after a turn (primed).
 -- Assumes nothing.
-use mathlib.Core.Path.{◌≡◌, sym, ap, ap₂, ◌∙◌, subst}
-use mathlib.Core.Logic.{⊎_elim, ◌≢◌, ◌↔◌}
+use mathlib.Core.Path.{◌≡◌, refl, sym, ap, ap₂, ◌∙◌, subst}
+use mathlib.Core.Logic.{◌⊎◌, inl, inr, ⊎_elim, ◌≢◌, ◌↔◌}
 use Prim.Native.Nat.{ℕ, ◌^◌, ◌≤◌, ◌<◌, min, max}
 use native.Mathlib.Omega.{arith}
 use lib.Bits.{bit_or}
 use lib.Count.{ones}
+use Rattle.std.specs.Prelude.{Option, Some, None}
 use Rattle.sets.specs.Member.{bit, Has, Empty}
 use Rattle.sets.specs.Number.{number, single, width}
 use Rattle.sets.specs.declared.Stages.{Stages}
-use Rattle.sets.specs.Walk.{Turn}
+use Rattle.sets.specs.Walk.{Turn, Next}
 use Rattle.sets.proofs.LawsBit.{bit-zero, bit-or}
 use Rattle.sets.proofs.LawsMember.{same?, bit-single-same, bit-single-other, empty-zero, not-has}
 use Rattle.sets.proofs.LawsLowest.{lowest-lt, lowest-has, rest-lowest, rest-other, rest-small, ones-rest}
@@ -20,6 +21,13 @@ use Rattle.sets.proofs.LawsLowest.{lowest-lt, lowest-has, rest-lowest, rest-othe
 -- when a walk begins all of the set is left
 pub walk-begins : {first items : Stages} {s : ℕ} → first ≡ items → number items.left ≡ s → number first.left ≡ s
 walk-begins e f = ap (λ i. number i.left) e ∙ f
+
+-- what comes next of one set, and what is left then, is one
+pub next-once : (left : ℕ) {left' left'' : ℕ} (r s : Option ℕ) → Next left r left' → Next left s left'' → (r ≡ s) × (left' ≡ left'')
+next-once left None None p q = (refl, p.1 ∙ sym q.1)
+next-once left None (Some k) p q = absurd (q.some p.0)
+next-once left (Some k) None p q = absurd (p.some q.0)
+next-once left (Some k) (Some l) p q = (ap Some (p.lowest ∙ sym q.lowest), p.others ∙ sym q.others)
 
 some-not-zero : (s : ℕ) → (Empty s → ⊥) → s ≢ 0
 some-not-zero s f e = f ((empty-zero s).1 e)
@@ -94,3 +102,28 @@ gather-end {left = left} g f j = omega (arith, g.each j, not-has left j (f j))
 pub gathered : {s : ℕ} {t : ℕ → ℕ} {left got : ℕ} → Gathered s t left got → Empty left
     → (j : ℕ) → t j ≤ 1 → Has got j ↔ (Has s j × (t j ≡ 1))
 gathered g f j l = (λ h. omega (arith, gather-end g f j), λ h. omega (arith, gather-end g f j))
+
+-- ---- showing
+
+-- each member of s is still left, or has the property
+pub record Shown (s : ℕ) (P : ℕ → Type 0) (left : ℕ) : Type 0 where
+  pub small : left < 2 ^ width
+  pub each : (j : ℕ) → Has s j → Has left j ⊎ P j
+
+-- at the start every member is left
+pub show-start : (s : ℕ) (P : ℕ → Type 0) → s < 2 ^ width → Shown s P s
+show-start s P h = record { small = h; each = λ j m. inl m }
+
+-- the stage of a turn has it
+pub show-turn : {s : ℕ} {P : ℕ → Type 0} {left k left' : ℕ} → Shown s P left → Turn left k left' → P k → Shown s P left'
+show-turn {P = P} {k = k} g turn p = record {
+  small = walk-small turn g.small;
+  each = λ j m. ⊎_elim
+      (λ l. ⊎_elim (λ q. inr (subst P (sym q) p)) (λ q. inl (walk-other turn g.small j q ∙ l)) (same? j k))
+      inr
+      (g.each j m);
+}
+
+-- at the end every member has it
+pub show-end : {s : ℕ} {P : ℕ → Type 0} {left : ℕ} → Shown s P left → Empty left → (j : ℕ) → Has s j → P j
+show-end g f j m = ⊎_elim (λ l. absurd (f j l)) (λ p. p) (g.each j m)
