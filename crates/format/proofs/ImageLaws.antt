@@ -102,3 +102,7 @@ plain-stop image r plain low h =
     (λ high. absurd (low (record { set = r; one_of = omega (arith, first-least image (predicates_of image)); at = high })))
     (λ none. record { stage = r; below = h; none = none })
     (plain.stops h)
+
+-- Where all are plain, every stage has one.
+pub plain-all : (image : List ℕ) (r : ℕ) → Plain image r → stages_of image ≤ r → DeadStop image → ⊥
+plain-all image r plain h stop = plain.some stop.stage (omega (arith, stop.below)) stop.none

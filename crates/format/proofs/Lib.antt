@@ -2,6 +2,7 @@
 pub mod RangeLaws
 pub mod ImageLaws
 pub mod RefusalLaws
+pub mod RecordLaws
 pub mod OperandLaws
 pub mod Decision
 pub mod ReadingLaws

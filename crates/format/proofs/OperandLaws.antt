@@ -6,13 +6,13 @@ use mathlib.Core.Path.{◌≡◌, refl, sym, ap, ◌∙◌, subst, subst⁻¹}
 use mathlib.Core.Bool.{Bool, true, false}
 use Rattle.std.proofs.lemmas.Bool.{false≢true}
 use Rattle.std.specs.Prelude.{Result, Ok, Err}
-use mathlib.Core.List.{List, [], ◌∷◌, ◌++◌, append_assoc}
+use mathlib.Core.List.{List, [], ◌∷◌, ◌++◌, append_assoc, append-nil}
 use mathlib.Core.Logic.{◌⊎◌, inl, inr, ⊎_elim}
 use lib.ListN.{length, get_or, set, replicate, length-append, length-set, get_or-replicate, get_or-append}
 use lib.Seq.{get_or-append_seam, get_or-set_same, get_or-set_other}
 use Rattle.sets.proofs.LawsMember.{side?, same?}
 use Rattle.format.specs.Table.{Twice, kind_of, sort_of, operands_as, operands_in, operands, record_at}
-use Rattle.format.specs.Reading.{In, Flagged, Noted}
+use Rattle.format.specs.Reading.{In, Flagged, Noted, OperandsSmall}
 use Rattle.format.specs.declared.Refusal.{Refusal}
 use Rattle.format.specs.declared.record.Record.{Record}
 use Rattle.format.specs.declared.record.Sort.{Sort}
@@ -117,6 +117,17 @@ pub operands-by : (row : Sort) (r : Record) (kind : Kind) (found : Sort) → kin
 operands-by row r kind found kind-is found-is is =
     let same : sort_of (kind_of r.kind) ≡ row = cc in
     ap (λ (s : Sort). operands_as s r) same
+
+-- Where the operands are small, the first is, and so is the second.
+pub small-first : (r : Record) {a : ℕ} {more : List ℕ} → operands_in r ≡ a ∷ more → OperandsSmall (operands_in r) → a < 64
+small-first r {a} {more} e small = (subst (λ (l : List ℕ). OperandsSmall l) e small) 0 (omega arith)
+
+pub small-second : (r : Record) {a b : ℕ} {more : List ℕ} → operands_in r ≡ a ∷ b ∷ more → OperandsSmall (operands_in r) → b < 64
+small-second r {a} {b} {more} e small = (subst (λ (l : List ℕ). OperandsSmall l) e small) 1 (omega arith)
+
+-- No operands more: the flags stay.
+pub noted-none : (before : List Bool) (done : Unit {0}) → Noted before [] before (Ok done)
+noted-none before done = λ row was. subst (λ (l : List ℕ). Flagged l before) (sym (append-nil row)) was
 
 -- Two operands more, one after the other; and one that stands twice, whatever comes after it.
 pub noted-two : (before mid after : List Bool) (a b : ℕ) (r : Result (Unit {0}) Refusal)

@@ -17,7 +17,7 @@ use Rattle.format.specs.Table.{term_of, atom_of, nth, trees, tree_of}
 use Rattle.format.specs.Reading.{Variables, Named, NamedInAtom}
 use Rattle.format.specs.declared.record.Record.{Record}
 use Rattle.format.specs.declared.record.Sort.{Sort}
-use Rattle.format.proofs.TreeLaws.{term-variable, atom-two, Row, tree-of-row, tree-at, tree-past, FreeAs, free-made}
+use Rattle.format.proofs.TreeLaws.{term-stage, term-variable, atom-one, atom-two, Row, tree-of-row, tree-at, tree-past, FreeAs, free-made}
 
 -- The set s has the variables with a property, of those that there is room for.
 abbrev pub Members : (ℕ → Type 0) → ℕ → Type 0
@@ -51,6 +51,10 @@ members-without a x e f v h =
 
 -- ---- terms and atoms
 
+-- A stage names no variable.
+pub named-stage : {t s : ℕ} → t < 64 → s ≡ 0 → Named (term_of t) s
+named-stage {t} {s} h e = subst (λ (u : Term). Named u s) (sym (term-stage t h)) (members-none e)
+
 -- A variable names itself.
 pub named-variable : {t s : ℕ} → 64 ≤ t → s ≡ single (t - 64) → Named (term_of t) s
 named-variable {t} {s} h e = subst (λ (u : Term). Named u s) (sym (term-variable t h)) (members_only (t - 64) e)
@@ -60,6 +64,11 @@ pub named-two : (image : List ℕ) (r : Record) {arity s : ℕ} (a b : ℕ) → 
     → s ≡ bit_or a b → Named (term_of r.t) a → Named (term_of r.b) b → NamedInAtom (atom_of image r) s
 named-two image r {s = s} a b d h e f g =
     subst (λ (q : Atom). NamedInAtom q s) (sym (atom-two image r (sym d ∙ h))) (members-union a b e f g)
+
+-- An atom of another arity names that of the first term.
+pub named-one : (image : List ℕ) (r : Record) {arity : ℕ} (s : ℕ) → arity ≡ arity_of image r.a → (arity ≡ 2 → ⊥)
+    → Named (term_of r.t) s → NamedInAtom (atom_of image r) s
+named-one image r s d h f = subst (λ (q : Atom). NamedInAtom q s) (sym (atom-one image r (λ e. h (d ∙ e)))) f
 
 -- ---- entries
 
