@@ -1,7 +1,7 @@
 -- An entry's formula in hand, from what the readers are lent: the fields of its record, the operands that its rule asks, the stage at which its walk
 -- starts; and a step of it whose head is read.
 --
---     kind-is, a-is, b-is, x-is, y-is, t-is         an entry's fields are those of its record on the side
+--     room, kind-is, a-is, b-is, x-is, y-is, t-is   an entry's number is small, and its fields are those of its record on the side
 --     start_is, start-inside, from-its-start        the stage at which its walk starts
 --     bound-inside                                  a binding at a stage leaves every variable at one
 --     Operand, a-operand, b-operand, a-bound, b-bound
@@ -11,6 +11,8 @@
 --     arm-kind, arm-ruled                           it is for the entry's kind, and its record keeps the rules of the kind
 --     arm-fails, arm-proves                         its condition fails, or holds and then the premises are read
 --     head-unread                                   no rule is read
+--     arm-inside, not-one                           the rule's bytes are there, and it is not for "false"
+--     next-is                                       the test for a chosen stage asks whether it is a successor
 use Prim.Native.Nat.{ℕ, zero, suc, ◌≤◌, ◌<◌}
 use native.Mathlib.Omega.{arith}
 use mathlib.Core.Path.{◌≡◌, refl, sym, ap, subst, ◌∙◌}
@@ -18,10 +20,14 @@ use mathlib.Core.Bool.{Bool, true, false}
 use mathlib.Core.List.{List}
 use mathlib.Core.Logic.{⊎_elim}
 use lib.Dec.{T, eqb, ltb}
+use lib.ListN.{length}
 use borrow.Author.Tests.{lt-ltb, le-ltb}
 use Rattle.sets.specs.declared.Set.{Set}
+use Rattle.model.specs.Decides.{Decides}
 use Rattle.model.specs.Formula.{Env, bind, pick, value}
+use Rattle.sets.specs.Member.{Has}
 use Rattle.sets.specs.Number.{width}
+use Rattle.sets.specs.Row.{held}
 use Rattle.sets.proofs.LawsMember.{side?}
 use Rattle.format.specs.Image.{stages_of, graph_of}
 use Rattle.format.specs.Table.{record_at, kind_of, sort_of, term_of, IsTerm, a_stage, a_variable, RuledAs}
@@ -29,21 +35,25 @@ use Rattle.format.proofs.ReadingLaws.{all-ruled}
 use Rattle.format.specs.declared.record.Record.{Record}
 use Rattle.format.specs.declared.record.Kind.{Kind}
 use Rattle.format.specs.declared.record.Kind.TheVariants as K
-use Rattle.rules.specs.Table.{kind_for}
+use Rattle.rules.specs.Table.{row, kind_for}
 use Rattle.rules.specs.Head.{head_of, Head, step_by}
 use Rattle.rules.specs.Reading.{Reader, Progress}
 use Rattle.rules.specs.declared.Rule.{Rule}
 use Rattle.std.specs.Prelude.{Ok, Err}
 use Rattle.rules.specs.declared.Unread.{Unread}
 use Rattle.rules.specs.declared.Stop.{Stop}
-use Rattle.rules.proofs.Heads.{head-begins}
+use Rattle.rules.proofs.Heads.{no_code_lem, head-begins, not-false}
+use Rattle.rules.proofs.Rows.{inside}
+use Rattle.rules.proofs.StepLaws.{number-kind}
 use Rattle.hand.specs.Environment.{env_of, Bound}
 use Rattle.hand.specs.declared.env.Env.{Env as Slots}
 use Rattle.hand.specs.Side.{kind_on, number_of}
 use Rattle.hand.specs.Hand.{start_as, start_in}
-use Rattle.hand.specs.Setup.{kind_in, entry_at, entry_of}
+use Rattle.hand.specs.Setup.{most_entries, kind_in, entry_at, entry_of}
 use Rattle.hand.specs.declared.setup.Entry.{Entry}
 use Rattle.hand.proofs.EnvironmentLaws.{stage-value, variable-value}
+use Rattle.hand.proofs.HandLaws.{leads-is}
+use Rattle.hand.proofs.SetupLaws.{next-set}
 use Rattle.hand.proofs.SideLaws.{of_number, start-side}
 use Rattle.checker.specs.Cause.{unread, stop_at}
 use Rattle.checker.specs.Reading.{Lent, InHand, OnWalk, Started}
@@ -110,6 +120,10 @@ bound-inside {env} {env'} {x} {t} {n} b small all h v =
 
 module _ {image table : List ℕ} {sets : List Set} {entries : List Entry} {side : ℕ} (lent : Lent image table side sets entries) where
   module _ {e : ℕ} {env : Env} (hand : InHand image table e env) where
+    -- There is room for its number.
+    pub room : e < most_entries
+    room = omega (arith, hand.below, lent.few)
+
     -- Its fields are those of its record on the side.
     pub entry-is : entry_at entries e ≡ entry_of image side (record_at table e)
     entry-is = lent.entry e hand.below
@@ -269,3 +283,23 @@ module _ {image table : List ℕ} {sets : List Set} {entries : List Entry} {side
       pub arm-proves : {p : Progress} → b ≡ true → p ≡ read_premises_of image table steps side e (record_at table e) env set s q next
           → p ≡ read_along image table steps side e env set s at
       arm-proves f p-is = step-proves image table steps side e refl env set s at refl refl refl arm.head allowed f p-is
+
+-- The rule's own bytes are there.
+pub arm-inside : {table steps : List ℕ} {side e at : ℕ} {q : Rule} {next : ℕ} → Arm table side steps e at q next → next ≤ length steps
+arm-inside {table} {steps} {side} {e} {at} {q} {next} arm = ⊎_elim
+    (λ l. inside (head-begins steps at (kind_in side (record_at table e)) arm.head).0 (omega arith))
+    (λ l. absurd (none (no_code_lem steps at (kind_in side (record_at table e)) l ∙ arm.head)))
+    (side? at (length steps))
+  where
+    none : ◌≡◌ {A = Head} (Err Unread.Missing) (Ok (step_by q next)) → ⊥
+    none f = cc
+
+-- No rule is for "false".
+pub not-one : (q : Rule) → kind_for q ≡ 1 → ⊥
+not-one q e = not-false q (number-kind (row q).kind _ e)
+
+-- The test for a chosen stage asks whether it is a successor.
+pub next-is : {image table : List ℕ} {sets : List Set} {entries : List Entry} {side e : ℕ} {env : Env} {s k : ℕ} (c : ℕ) {b : Bool}
+    → Lent image table side sets entries → OnWalk image table e env s → k ≡ s → Decides b (Has (held sets k) c) → b ≡ (graph_of image).next s c
+next-is {image} {sets = sets} {s = s} c lent w k-is d =
+    leads-is image s c (next-set lent.all w.stage (ap (held sets) k-is)) d

@@ -2,7 +2,7 @@
 --
 --     small-setup, setup-lent, question-lent, question-hand
 --                                      what the readers of steps go by holds of a setup that is not refused
---     by-given                         the steps of a question by its own goal and start
+--     own-question, by-given           a question that was read, and its steps, by its own goal and start
 --     reading-is, missing, wrong, fails, remain, whole
 --                                      the answer to the steps, in each arm of their reader's
 --     before-question, no_header, other-question, after-header
@@ -127,6 +127,11 @@ module _ {image table : List ℕ} {goal start : ℕ} {q : Question} (read : Ques
 
   pub start_is : q.start ≡ start
   start_is = ap (λ (q : Question). q.start) read.is
+
+  pub own-question : QuestionRead image table q.goal q.start q
+  own-question =
+      subst (λ (g : ℕ). QuestionRead image table g q.start q) (sym goal_is)
+      (subst (λ (s : ℕ). QuestionRead image table goal s q) (sym start_is) read)
 
 -- ---- the steps
 

@@ -1,11 +1,12 @@
--- A rule's own condition, from what the code tests.
+-- The one rule for "true", for an atom and for its negation, and a rule's own condition, from what the code tests.
 --
---     holds-allowed, not-allowed     the rules for an atom and for its negation
---     and-left, and-right            of two conditions both hold
---     off-walk                       a stage that is to be off the walk is not on it
+--     for-true, for-holds, for-holds-not     the rule is known by its kind
+--     holds-allowed, not-allowed             the rules for an atom and for its negation
+--     and-left, and-right                    of two conditions both hold
+--     off-walk                               a stage that is to be off the walk is not on it
 use Prim.Native.Nat.{ℕ, ◌/◌}
 use native.Mathlib.Omega.{arith}
-use mathlib.Core.Path.{◌≡◌, sym, ap, subst, ◌∙◌}
+use mathlib.Core.Path.{◌≡◌, refl, sym, ap, subst, ◌∙◌}
 use mathlib.Core.Bool.{Bool, true, false, not, ◌&&◌}
 use mathlib.Core.List.{List}
 use lib.Dec.{T}
@@ -23,6 +24,68 @@ use Rattle.hand.specs.Setup.{entry_at, atom_from}
 use Rattle.hand.proofs.EntryLaws.{entry-atom}
 use Rattle.checker.specs.Reading.{Lent, InHand, allows}
 use Rattle.checker.proofs.ArmLaws.{kind-is, entry-is}
+
+-- ---- kinds with one rule
+
+-- The one rule for "true".
+pub for-true : (q : Rule) → kind_for q ≡ 0 → q ≡ Rule.True
+for-true Rule.True e = refl
+for-true Rule.Holds e = absurd (omega arith)
+for-true Rule.HoldsNot e = absurd (omega arith)
+for-true Rule.And e = absurd (omega arith)
+for-true Rule.OrLeft e = absurd (omega arith)
+for-true Rule.OrRight e = absurd (omega arith)
+for-true Rule.Ax e = absurd (omega arith)
+for-true (Rule.Ex c) e = absurd (omega arith)
+for-true Rule.AfNow e = absurd (omega arith)
+for-true Rule.AfLater e = absurd (omega arith)
+for-true (Rule.EgOn c) e = absurd (omega arith)
+for-true Rule.EgMerge e = absurd (omega arith)
+for-true Rule.ArRelease e = absurd (omega arith)
+for-true Rule.ArOn e = absurd (omega arith)
+for-true Rule.ArMerge e = absurd (omega arith)
+for-true Rule.EuNow e = absurd (omega arith)
+for-true (Rule.EuLater c) e = absurd (omega arith)
+
+-- For an atom.
+pub for-holds : (q : Rule) → kind_for q ≡ 2 → q ≡ Rule.Holds
+for-holds Rule.True e = absurd (omega arith)
+for-holds Rule.Holds e = refl
+for-holds Rule.HoldsNot e = absurd (omega arith)
+for-holds Rule.And e = absurd (omega arith)
+for-holds Rule.OrLeft e = absurd (omega arith)
+for-holds Rule.OrRight e = absurd (omega arith)
+for-holds Rule.Ax e = absurd (omega arith)
+for-holds (Rule.Ex c) e = absurd (omega arith)
+for-holds Rule.AfNow e = absurd (omega arith)
+for-holds Rule.AfLater e = absurd (omega arith)
+for-holds (Rule.EgOn c) e = absurd (omega arith)
+for-holds Rule.EgMerge e = absurd (omega arith)
+for-holds Rule.ArRelease e = absurd (omega arith)
+for-holds Rule.ArOn e = absurd (omega arith)
+for-holds Rule.ArMerge e = absurd (omega arith)
+for-holds Rule.EuNow e = absurd (omega arith)
+for-holds (Rule.EuLater c) e = absurd (omega arith)
+
+-- For its negation.
+pub for-holds-not : (q : Rule) → kind_for q ≡ 3 → q ≡ Rule.HoldsNot
+for-holds-not Rule.True e = absurd (omega arith)
+for-holds-not Rule.Holds e = absurd (omega arith)
+for-holds-not Rule.HoldsNot e = refl
+for-holds-not Rule.And e = absurd (omega arith)
+for-holds-not Rule.OrLeft e = absurd (omega arith)
+for-holds-not Rule.OrRight e = absurd (omega arith)
+for-holds-not Rule.Ax e = absurd (omega arith)
+for-holds-not (Rule.Ex c) e = absurd (omega arith)
+for-holds-not Rule.AfNow e = absurd (omega arith)
+for-holds-not Rule.AfLater e = absurd (omega arith)
+for-holds-not (Rule.EgOn c) e = absurd (omega arith)
+for-holds-not Rule.EgMerge e = absurd (omega arith)
+for-holds-not Rule.ArRelease e = absurd (omega arith)
+for-holds-not Rule.ArOn e = absurd (omega arith)
+for-holds-not Rule.ArMerge e = absurd (omega arith)
+for-holds-not Rule.EuNow e = absurd (omega arith)
+for-holds-not (Rule.EuLater c) e = absurd (omega arith)
 
 -- ---- atoms
 

@@ -2,7 +2,7 @@
 -- reads at each successor, ascending, as the rules' `through` does.
 --
 --     Turns                the invariant: the successors below a number are read, and those from there on are left
---     each_start, each-stage, each_next, each-end
+--     each-begins, each-stage, each-room, each_next, each-end, each_start
 --                          the loop over the successors of a stage of an image
 --     each-stops           a fault on the way is the loop's answer
 use Prim.Native.Nat.{ℕ, zero, suc, ◌^◌, ◌≤◌, ◌<◌}
@@ -22,12 +22,14 @@ use Rattle.std.specs.Prelude.{Err}
 use Rattle.rules.specs.declared.Stop.{Stop}
 use Rattle.sets.proofs.LawsMember.{has-test, empty-zero, side?}
 use Rattle.sets.proofs.LawsLowest.{lowest-le, lowest-has, has_rest, rest-small}
+use Rattle.sets.proofs.LawsWalk.{walk-room}
 use Rattle.format.specs.Image.{stages_of, member, graph_of}
 use Rattle.rules.specs.Reading.{Reader, onward, visit, through, Progress}
 use Rattle.rules.proofs.Faults.{skipped}
 use Rattle.hand.specs.declared.setup.Entry.{Entry}
+use Rattle.hand.specs.Hand.{SuccessorsOf}
 use Rattle.hand.proofs.SetupLaws.{next-set}
-use Rattle.checker.specs.Reading.{Lent}
+use Rattle.checker.specs.Reading.{Small, Lent}
 use Rattle.checker.proofs.ReadingLaws.{nothing, in-turn}
 
 -- Below n: the successors below `from` are read, and those from there on are left.
@@ -125,21 +127,23 @@ module _ (n : ℕ) (next : ℕ → Bool) (inside : (t : ℕ) → T (next t) → 
 
 -- ---- the successors of a stage
 
-module _ {image table : List ℕ} {sets : List Set} {entries : List Entry} {side : ℕ} (lent : Lent image table side sets entries) (s : ℕ) (read : ℕ → Reader) (came : Progress) where
+module _ {image table : List ℕ} (small : Small image table) (s : ℕ) (read : ℕ → Reader) (came : Progress) where
   abbrev Each : ℕ → Progress → Type 0
   Each left here = Turns (stages_of image) ((graph_of image).next s) read came left here
 
   inside : (t : ℕ) → T ((graph_of image).next s t) → t < stages_of image
-  inside t h = (lent.small.inside s t h).1
+  inside t h = (small.inside s t h).1
 
-  -- The successors that are left of a row's set are those of the stage.
-  pub each_start : {k left : ℕ} → left < 2 ^ width → s < stages_of image → k ≡ s → left ≡ held sets k → Each left came
-  each_start h stage k-is is =
-      turns-start (stages_of image) ((graph_of image).next s) inside read came h (next-set lent.all stage (is ∙ ap (held sets) k-is)).each
+  -- Where the successors of the stage are left, none is read yet.
+  pub each-begins : {left : ℕ} → left < 2 ^ width → SuccessorsOf image s left → Each left came
+  each-begins h all = turns-start (stages_of image) ((graph_of image).next s) inside read came h all.each
 
   module _ {left k left' : ℕ} {here : Progress} (g : Each left here) (turn : Turn left k left') where
     pub each-stage : T ((graph_of image).next s k)
     each-stage = turn-stage (stages_of image) ((graph_of image).next s) inside read came g turn
+
+    pub each-room : k < width
+    each-room = walk-room turn g.small
 
     pub each_next : {p : Progress} → p ≡ onward here (read k) → Each left' p
     each_next e = turns_next (stages_of image) ((graph_of image).next s) inside read came g turn e
@@ -149,3 +153,9 @@ module _ {image table : List ℕ} {sets : List Set} {entries : List Entry} {side
 
   pub each-end : {left : ℕ} {here : Progress} → Each left here → Empty left → here ≡ onward came (through (stages_of image) ((graph_of image).next s) read)
   each-end g none = turns-end (stages_of image) ((graph_of image).next s) inside read came g none
+
+-- The successors that are left of a row's set are those of the stage.
+pub each_start : {image table : List ℕ} {sets : List Set} {entries : List Entry} {side : ℕ} → Lent image table side sets entries → (s : ℕ) (read : ℕ → Reader)
+    (came : Progress) {k left : ℕ} → left < 2 ^ width → s < stages_of image → k ≡ s → left ≡ held sets k
+    → Turns (stages_of image) ((graph_of image).next s) read came left came
+each_start {sets = sets} lent s read came h stage k-is is = each-begins lent.small s read came h (next-set lent.all stage (is ∙ ap (held sets) k-is))

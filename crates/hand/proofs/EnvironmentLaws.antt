@@ -1,9 +1,10 @@
 -- The four variables as one value: a binding, the environment of a start, and terms read in an environment.
 --
---     bound-in, bound-out              a binding of one of the four variables, and of another
---     start-env                        variable 0 at the start and the others at 0
---     stage-names                      a stage names no variable
---     stage-value, variable-value      the stage of a term
+--     bound-in, bound-out                              a binding of one of the four variables, and of another
+--     no-variable                                      what is none of the four stands at 0
+--     start-env                                        variable 0 at the start and the others at 0
+--     stage-names, names-variable, variable-names      which variable a term names
+--     stage-value, variable-value                      the stage of a term
 --
 -- Assumes nothing.
 use Prim.Native.Nat.{ℕ, zero, suc, ◌-◌, ◌≤◌, ◌<◌}
@@ -12,7 +13,7 @@ use mathlib.Core.Path.{◌≡◌, refl, sym, ap, ◌∙◌, subst, fun_ext}
 use mathlib.Core.Bool.{Bool}
 use mathlib.Core.List.{List, [], ◌∷◌}
 use mathlib.Core.Logic.{⊎_elim, ◌≢◌}
-use lib.ListN.{length, get_or, set}
+use lib.ListN.{length, get_or, set, get_or-eq_default}
 use lib.Seq.{get_or-set_same, get_or-set_other}
 use lib.Dec.{eqb}
 use borrow.Author.Tests.{eq-eqb, ne_eqb}
@@ -45,6 +46,11 @@ bound-in env x s long h = record { here = λ g. fun_ext (λ v. ⊎_elim (same v)
 pub bound-out : (env : Env) (x s : ℕ) → 4 ≤ x → Bound env x s env
 bound-out env x s h = record { here = λ g. absurd (omega arith); none = λ g. refl }
 
+-- What is none of the four variables stands at 0.
+pub no-variable : (env : Env) (v : ℕ) → length env.slots ≡ 4 → 4 ≤ v → 0 ≡ env_of env v
+unfolding env_of
+no-variable env v long h = sym (get_or-eq_default env.slots 0 (omega arith))
+
 -- Variable 0 at the start, and the others at 0.
 pub start-env : (start : ℕ) → env_of (record { slots = start ∷ 0 ∷ 0 ∷ 0 ∷ [] }) ≡ started start
 unfolding env_of
@@ -68,6 +74,13 @@ stage-names t x h n = subst (Names x) (term-stage t h) n
 
 pub stage-value : (c : Environment) (t : ℕ) → t < 64 → t ≡ value c (term_of t)
 stage-value c t h = ap (value c) (sym (term-stage t h))
+
+-- A variable names itself.
+pub names-variable : (t x : ℕ) → 64 ≤ t → t - 64 ≡ x → Names x (term_of t)
+names-variable t x h e = subst (Names x) (sym (term-variable t h)) (sym e)
+
+pub variable-names : (t x : ℕ) → 64 ≤ t → Names x (term_of t) → t - 64 ≡ x
+variable-names t x h n = sym (subst (Names x) (term-variable t h) n)
 
 -- The value of a variable is where it stands.
 pub variable-value : (c : Environment) (t : ℕ) → 64 ≤ t → c (t - 64) ≡ value c (term_of t)

@@ -4,7 +4,7 @@
 --     member_is                          a test of membership is `member`
 --     other-side                         on side 1 the kind is the dual's
 --     atom-two-is, atom-one-is           an atom, as membership in one of its predicate's sets
---     successors-in                      the successors of a stage
+--     successors-in, leads-is            the successors of a stage
 use Prim.Native.Nat.{ℕ, zero, suc, ◌+◌, ◌<◌}
 use mathlib.Core.Path.{◌≡◌, refl, sym, ap, ap₂, ◌∙◌}
 use mathlib.Core.Bool.{Bool, true, false, ◌&&◌}
@@ -50,3 +50,7 @@ pub successors-in : (image : List ℕ) (s : ℕ) {r : ℕ} → s < stages_of ima
 successors-in image s h e = record {
   each = λ t. ap (λ (z : ℕ). member z t) e ∙ ap (λ (b : Bool). b && member (set_of image s) t) (sym (lt-ltb s (stages_of image) h));
 }
+
+-- A test of membership in it says whether c is a successor.
+pub leads-is : (image : List ℕ) (s c : ℕ) {r : ℕ} {b : Bool} → SuccessorsOf image s r → Decides b (Has r c) → b ≡ (graph_of image).next s c
+leads-is image s c {r} {b} f d = member_is r c b d ∙ f.each c

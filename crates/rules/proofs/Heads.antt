@@ -1,5 +1,6 @@
 -- A step's head: what is read at a place, and what that says of the bytes there.
 --
+--     NoneBelow, no-rule             a code that none of the rules has gives the first rule
 --     rule-is, high                  the rule that a code has; a code without a rule is above the last
 --     no_code_lem                    22: there is no code byte
 --     high-code, other-kind          23: no rule has the code, or its rule is for another kind
@@ -11,14 +12,14 @@
 --     head_step, head-begins         a rule is read exactly where it begins and is for the kind in hand
 --     same_step                      a step that was read is one
 --     Found, found                   what each head was read from
-use Prim.Native.Nat.{ℕ, ◌+◌, ◌≤◌, ◌<◌}
+use Prim.Native.Nat.{ℕ, zero, suc, ◌+◌, ◌≤◌, ◌<◌}
 use native.Mathlib.Omega.{arith}
 use mathlib.Core.Path.{◌≡◌, refl, sym, ap, ap₂, subst, ◌∙◌}
 use mathlib.Core.Bool.{Bool, true, false, not}
 use mathlib.Core.List.{List, [], ◌∷◌}
 use mathlib.Core.Logic.{◌⊎◌, inl, inr, ⊎_elim}
 use lib.Dec.{T, ltb, eqb, eqb→eq, ltb→lt, nltb→le}
-use lib.ListN.{length, get_or}
+use lib.ListN.{length, get_or, get_or-eq_default}
 use Rattle.std.specs.Prelude.{None, Some, Ok, Err}
 use Rattle.std.proofs.lemmas.Option.{slice_get_within, slice_get-get_or, get_or_from_slice_get}
 use borrow.Author.Tests.{lt-ltb, le-ltb, eq-eqb, ne_eqb}
@@ -32,6 +33,20 @@ use Rattle.rules.specs.Head.{Head, step_by, head_of, code_at, chosen_at}
 use Rattle.rules.specs.declared.Step.{Step}
 use Rattle.rules.specs.declared.Unread.{Unread}
 use Rattle.rules.proofs.Rows.{empty-at, byte_at, join, first_byte}
+
+-- x is none of the numbers below n
+abbrev pub NoneBelow : ℕ → ℕ → Type 0
+NoneBelow zero x = Unit {0}
+NoneBelow (suc n) x = NoneBelow n x × (x ≡ n → ⊥)
+
+-- Then it is n or more.
+past : (n x : ℕ) → NoneBelow n x → n ≤ x
+past zero x h = omega arith
+past (suc n) x h = let l : n ≤ x = past n x h.0 in let d : x ≡ n → ⊥ = h.1 in omega arith
+
+-- A code that none of the rules has gives the first rule.
+pub no-rule : (code c : ℕ) → NoneBelow 17 code → Rule.True ≡ rule_of code c
+no-rule code c h = sym (get_or-eq_default (rules c) Rule.True (past 17 code h))
 
 -- Where there is a rule with a code, it is the one of the table; and where there is none, the code is above the last.
 pub rule-is : {code : ℕ} {r : Rule} → Some r ≡ rule_with code → (code ≤ 16) × (r ≡ rule_of code 0)

@@ -266,7 +266,7 @@ pub at_each-formula-requires : goal.at_each-formula-requires
 at_each-formula-requires t c =
     let self = c.args.self.now in
     let w = c.requires.0 in
-    let next = each-stage self.lent c.args.s _ _ c.loop-t.invariant c.in-Some.ensures.steps in
+    let next = each-stage self.lent.small c.args.s _ _ c.loop-t.invariant c.in-Some.ensures.steps in
     let op = a-bound self.lent self.bytes.now w.hand c.requires.1 refl c.bound.ensures (onto self.lent _ w next).stage in
     (omega (arith, c.decreases, op.lower), op.hand)
 
@@ -275,20 +275,20 @@ at_each-returns-in_err-formula t c =
     let self = c.args.self.now in
     let w = c.requires.0 in
     let fault = err_from_is_err_and c.from_residual.result c.from_residual.ensures.1 in
-    let next = each-stage self.lent c.args.s _ _ c.loop-t.invariant c.in-Some.ensures.steps in
+    let next = each-stage self.lent.small c.args.s _ _ c.loop-t.invariant c.in-Some.ensures.steps in
     let op = a-bound self.lent self.bytes.now w.hand c.requires.1 refl c.bound.ensures (onto self.lent _ w next).stage in
-    rw (fault.1, fault.2) (each-stops self.lent c.args.s _ _ c.loop-t.invariant c.in-Some.ensures.steps (op.reads _ c.in_err-formula.ensures))
+    rw (fault.1, fault.2) (each-stops self.lent.small c.args.s _ _ c.loop-t.invariant c.in-Some.ensures.steps (op.reads _ c.in_err-formula.ensures))
 
 pub at_each-loop-t-preserved : goal.at_each-loop-t-preserved
 at_each-loop-t-preserved t c =
     let self = c.args.self.now in
     let w = c.requires.0 in
-    let next = each-stage self.lent c.args.s _ _ c.loop-t.invariant c.in-Some.ensures.steps in
+    let next = each-stage self.lent.small c.args.s _ _ c.loop-t.invariant c.in-Some.ensures.steps in
     let op = a-bound self.lent self.bytes.now w.hand c.requires.1 refl c.bound.ensures (onto self.lent _ w next).stage in
-    each_next self.lent c.args.s _ _ c.loop-t.invariant c.in-Some.ensures.steps (op.reads _ c.in_ok-formula.ensures)
+    each_next self.lent.small c.args.s _ _ c.loop-t.invariant c.in-Some.ensures.steps (op.reads _ c.in_ok-formula.ensures)
 
 pub at_each-returns : goal.at_each-returns
-at_each-returns t c = each-end c.args.self.now.lent c.args.s _ _ c.loop-t.invariant c.in-None.ensures.steps.0
+at_each-returns t c = each-end c.args.self.now.lent.small c.args.s _ _ c.loop-t.invariant c.in-None.ensures.steps.0
 
 -- ---- `on_at_each`: a turn of the loop reads the walk at the lowest successor that is left
 
@@ -302,22 +302,22 @@ on_at_each-walk-requires t c =
     let lent = c.args.self.now.lent in
     let w = c.requires.0 in
     let more = grows (number_lt _ _ c.well_formed.1.1.1.0) (stage-room lent w) c.requires.1 c.index-k.ensures c.with-longer.ensures in
-    (omega (arith, c.decreases, more.0, more.1), onto lent _ w (each-stage lent c.args.s _ _ c.loop-t.invariant c.in-Some.ensures.steps))
+    (omega (arith, c.decreases, more.0, more.1), onto lent _ w (each-stage lent.small c.args.s _ _ c.loop-t.invariant c.in-Some.ensures.steps))
 
 pub on_at_each-returns-in_err-walk : goal.on_at_each-returns-in_err-walk
 on_at_each-returns-in_err-walk t c =
     let self = c.args.self.now in
     let fault = err_from_is_err_and c.from_residual.result c.from_residual.ensures.1 in
-    rw (fault.1, fault.2) (each-stops self.lent c.args.s _ _ c.loop-t.invariant c.in-Some.ensures.steps
+    rw (fault.1, fault.2) (each-stops self.lent.small c.args.s _ _ c.loop-t.invariant c.in-Some.ensures.steps
     (along-on (number_lt _ _ c.well_formed.1.1.1.0) (stage-room self.lent c.requires.0) c.requires.1 c.index-k.ensures c.with-longer.ensures
     self.image.now self.table.now self.bytes.now self.side _ _ _ _ c.in_err-walk.ensures))
 
 pub on_at_each-loop-t-preserved : goal.on_at_each-loop-t-preserved
 on_at_each-loop-t-preserved t c =
     let self = c.args.self.now in
-    each_next self.lent c.args.s _ _ c.loop-t.invariant c.in-Some.ensures.steps
+    each_next self.lent.small c.args.s _ _ c.loop-t.invariant c.in-Some.ensures.steps
     (along-on (number_lt _ _ c.well_formed.1.1.1.0) (stage-room self.lent c.requires.0) c.requires.1 c.index-k.ensures c.with-longer.ensures
     self.image.now self.table.now self.bytes.now self.side _ _ _ _ c.in_ok-walk.ensures)
 
 pub on_at_each-returns : goal.on_at_each-returns
-on_at_each-returns t c = each-end c.args.self.now.lent c.args.s _ _ c.loop-t.invariant c.in-None.ensures.steps.0
+on_at_each-returns t c = each-end c.args.self.now.lent.small c.args.s _ _ c.loop-t.invariant c.in-None.ensures.steps.0
