@@ -5,21 +5,27 @@
 --     counted-once, rest-told          one part only, and what follows two of them
 --     framed-once, too-long            one row of parts only, and no byte behind them
 --     of-shape?                        whether an input is of the program's shape is computed
+--     image_size, table_size, Cut, framed-cut
+--                                      where the parts of an input stand in it, read off the two lengths
+--     some-length, framing             an input whose lengths add up has parts
+--     word-past                        a number past the end, whose bytes count as 0
+--     sizes-differ                     an input whose lengths do not add up has no parts
 --
 -- Assumes nothing.
-use Prim.Native.Nat.{ℕ, ◌+◌, ◌/◌, ◌%◌, ◌≤◌, ◌<◌}
+use Prim.Native.Nat.{ℕ, suc, ◌+◌, ◌/◌, ◌%◌, ◌≤◌, ◌<◌}
+use native.Mathlib.Numerals.{add-one}
 use native.Mathlib.Omega.{arith}
 use mathlib.Core.Path.{◌≡◌, refl, sym, ap, ap₂, ◌∙◌, subst}
 use mathlib.Core.List.{List, [], ◌∷◌, ◌++◌}
-use lib.ListN.{length, take, drop, length-append, length-take, length-drop, take-append-drop}
-use lib.Seq.{take_at, drop_at, get_or-drop}
+use lib.ListN.{length, take, drop, length-append, length-take, length-drop, take-append-drop, drop_of_length-le, get_or-eq_default}
+use lib.Seq.{take_at, drop_at, drop-append-add, drop-drop, drop-cons, get_or-drop}
 use Rattle.std.specs.Prelude.{Option, Some, None, MatchOption}
 use Rattle.std.specs.List.{IsSplitAt}
 use Rattle.std.specs.Borrow.{Bor}
 use Rattle.sets.proofs.LawsBytes.{Bytes}
 use Rattle.format.specs.Bytes.{byte_at, word_at}
 use Rattle.format.proofs.Decision.{le?, both?, same-as}
-use Rattle.line.specs.Framing.{counted, framed, limit, Framed, OfShape, NoPart}
+use Rattle.line.specs.Framing.{word, counted, framed, limit, Framed, OfShape, NoPart}
 
 -- The parts take 6 bytes more than image and table.
 pub framed-length : (image table : List ℕ) (goal start : ℕ) → length (framed image table goal start) ≡ 6 + length image + length table
@@ -146,3 +152,149 @@ of-shape? input small = from-first (counted? input small)
     from-first : Dec (Counted input) → Dec (OfShape input)
     from-first (no f) = no (λ o. f (record { part = o.image; rest = counted o.table (o.goal ∷ o.start ∷ []); is = o.parts.is }))
     from-first (yes a) = from-second a (counted? a.rest (rest-small input a.part a.rest small a.is))
+
+-- ---- the places of the parts
+
+-- The length that an input gives for the image; and, where the image is that long, the one that it gives for the table.
+abbrev pub image_size : List ℕ → ℕ
+image_size input = word_at input 0
+
+abbrev pub table_size : List ℕ → ℕ → ℕ
+table_size input image = word_at input (2 + image)
+
+-- Where the parts of an input stand in it.
+pub record Cut (image table : List ℕ) (goal start : ℕ) (input : List ℕ) : Type 0 where
+  pub image-size : length image ≡ image_size input
+  pub image-is : image ≡ take (length image) (drop 2 input)
+  pub table-size : length table ≡ table_size input (length image)
+  pub table_is : table ≡ take (length table) (drop (4 + length image) input)
+  pub goal_is : goal ≡ byte_at input (4 + length image + length table)
+  pub start_is : start ≡ byte_at input (5 + length image + length table)
+  pub total : length input ≡ 6 + length image + length table
+
+-- A byte behind a place, read off what stands there.
+read_behind : (input rest : List ℕ) (k n m : ℕ) → drop k input ≡ rest → m ≡ k + n → byte_at input m ≡ byte_at rest n
+read_behind input rest k n m e h =
+    ap (λ (x : ℕ). byte_at input x) h ∙ sym (get_or-drop k input n 0) ∙ ap (λ (l : List ℕ). byte_at l n) e
+
+-- What stands behind a part that stands at a place.
+drop-behind : (input part rest : List ℕ) (k n m : ℕ) → drop k input ≡ part ++ rest → m ≡ k + (length part + n) → drop m input ≡ drop n rest
+drop-behind input part rest k n m e h =
+    ap (λ (x : ℕ). drop x input) h ∙ sym (drop-drop (length part + n) k input) ∙ ap (drop (length part + n)) e ∙ drop-append-add part rest n
+
+-- What stands behind the image, and what behind the table.
+module _ (image table : List ℕ) (goal start : ℕ) where
+  abbrev behind-table : List ℕ
+  behind-table = table ++ (goal ∷ start ∷ [])
+
+  abbrev behind-image : List ℕ
+  behind-image = word (length table) ++ behind-table
+
+  abbrev all : List ℕ
+  all = framed image table goal start
+
+  all-behind : drop (2 + length image) all ≡ behind-image
+  all-behind = drop-behind all image behind-image 2 0 (2 + length image) refl (omega arith)
+
+  all_rest : drop (4 + length image) all ≡ behind-table
+  all_rest = drop-behind all image behind-image 2 2 (4 + length image) refl (omega arith)
+
+  all-last : drop (4 + length image + length table) all ≡ goal ∷ start ∷ []
+  all-last =
+      drop-behind all table (goal ∷ start ∷ []) (4 + length image) 0 (4 + length image + length table) all_rest (omega arith)
+
+  framed-all : Cut image table goal start all
+  framed-all = record {
+    image-size = omega arith;
+    image-is = sym (take_at image behind-image (length image) refl);
+    table-size =
+        omega (
+          arith,
+          read_behind all behind-image (2 + length image) 0 (2 + length image) all-behind (omega arith),
+          read_behind all behind-image (2 + length image) 1 (2 + length image + 1) all-behind refl,
+        );
+    table_is = sym (ap (take (length table)) all_rest ∙ take_at table (goal ∷ start ∷ []) (length table) refl);
+    goal_is =
+        sym
+        (read_behind all (goal ∷ start ∷ []) (4 + length image + length table) 0 (4 + length image + length table) all-last (omega arith));
+    start_is =
+        sym
+        (read_behind all (goal ∷ start ∷ []) (4 + length image + length table) 1 (5 + length image + length table) all-last (omega arith));
+    total = framed-length image table goal start;
+  }
+
+-- In an input that has parts they stand there.
+pub framed-cut : {image table input : List ℕ} {goal start : ℕ} → Framed image table goal start input → Cut image table goal start input
+framed-cut {image} {table} {input} {goal} {start} f = subst (Cut image table goal start) (sym f.is) (framed-all image table goal start)
+
+-- The lengths in an input that has parts add up.
+adds-up : {image table input : List ℕ} {goal start : ℕ} → Cut image table goal start input
+    → length input ≡ 6 + image_size input + table_size input (image_size input)
+adds-up {image} {table} {input} c =
+    c.total ∙ ap (λ (n : ℕ). 6 + length image + n) c.table-size ∙ ap (λ (n : ℕ). 6 + n + table_size input n) c.image-size
+
+-- Two bytes of a list that is long enough, and what follows them.
+two_bytes : (l : List ℕ) (k m : ℕ) → k + 2 ≤ length l → m ≡ k + 2 → drop k l ≡ byte_at l k ∷ byte_at l (k + 1) ∷ drop m l
+two_bytes l k m h e =
+    let end : suc (suc k) ≡ m = omega arith in
+    drop-cons l k 0 (omega arith)
+    ∙ ap (λ (r : List ℕ). byte_at l k ∷ r)
+    (drop-cons l (suc k) 0 (omega arith) ∙ ap₂ (λ (i j : ℕ). byte_at l i ∷ drop j l) (sym (add-one k)) end)
+
+-- The two bytes of a 16-bit number.
+word_bytes : (l : List ℕ) (k n : ℕ) → Bytes l → n ≡ word_at l k → byte_at l k ∷ byte_at l (k + 1) ∷ [] ≡ word n
+word_bytes l k n small e =
+    ap₂ (λ (i j : ℕ). i ∷ j ∷ []) (omega (arith, e, small (k + 1))) (omega (arith, e, small (k + 1)))
+
+-- So many bytes of a list from a place on, and what follows them.
+some_bytes : (l : List ℕ) (k n : ℕ) → drop k l ≡ take n (drop k l) ++ drop (k + n) l
+some_bytes l k n = sym (take-append-drop n (drop k l)) ∙ ap (λ (r : List ℕ). take n (drop k l) ++ r) (drop-drop n k l)
+
+-- There are so many where the list is long enough.
+pub some-length : (l : List ℕ) (k n : ℕ) → k + n ≤ length l → length (take n (drop k l)) ≡ n
+some-length l k n h = omega (arith, length-take n (drop k l), length-drop k l)
+
+-- An input whose lengths add up has parts.
+module _ (input : List ℕ) (small : Bytes input) (image table : ℕ) (first : image ≡ image_size input) (second : table ≡ table_size input image)
+    (total : length input ≡ 6 + image + table) where
+  abbrev image_bytes : List ℕ
+  image_bytes = take image (drop 2 input)
+
+  abbrev table_bytes : List ℕ
+  table_bytes = take table (drop (4 + image) input)
+
+  pub framing : input ≡ framed image_bytes table_bytes (byte_at input (4 + image + table)) (byte_at input (5 + image + table))
+  framing =
+      two_bytes input 0 2 (omega arith) refl
+      ∙ ap₂ (λ (w r : List ℕ). w ++ r)
+      (word_bytes input 0 image small first ∙ ap word (sym (some-length input 2 image (omega arith))))
+      (some_bytes input 2 image ∙ ap (λ (r : List ℕ). image_bytes ++ r) from-table)
+    where
+      last : List ℕ
+      last = byte_at input (4 + image + table) ∷ byte_at input (5 + image + table) ∷ []
+
+      at-end : drop (4 + image + table) input ≡ last
+      at-end =
+          let next : 4 + image + table + 1 ≡ 5 + image + table = omega arith in
+          let none : drop (6 + image + table) input ≡ [] = drop_of_length-le input {i = 6 + image + table} (omega arith) in
+          two_bytes input (4 + image + table) (6 + image + table) (omega arith) (omega arith)
+          ∙ ap₂ (λ (i : ℕ) (r : List ℕ). byte_at input (4 + image + table) ∷ byte_at input i ∷ r) next none
+
+      from-table : drop (2 + image) input ≡ word (length table_bytes) ++ (table_bytes ++ last)
+      from-table =
+          two_bytes input (2 + image) (4 + image) (omega arith) (omega arith)
+          ∙ ap₂ (λ (w r : List ℕ). w ++ r)
+          (word_bytes input (2 + image) table small second ∙ ap word (sym (some-length input (4 + image) table (omega arith))))
+          (some_bytes input (4 + image) table ∙ ap (λ (r : List ℕ). table_bytes ++ r) at-end)
+
+-- A number past the end, whose bytes count as 0.
+pub word-past : (bytes : List ℕ) (at : ℕ) → length bytes ≤ at → 0 ≡ word_at bytes at
+word-past bytes at h = omega (arith, get_or-eq_default bytes 0 h, get_or-eq_default bytes 0 {n = at + 1} (omega arith))
+
+-- No parts where the lengths do not add up.
+pub sizes-differ : (input : List ℕ) (image table : ℕ) → image ≡ image_size input → table ≡ table_size input image
+    → (length input ≡ 6 + image + table → ⊥) → OfShape input → ⊥
+sizes-differ input image table first second apart o =
+    apart
+    (subst (λ (b : ℕ). length input ≡ 6 + image + b) (sym second)
+    (subst (λ (a : ℕ). length input ≡ 6 + a + table_size input a) (sym first) (adds-up (framed-cut o.parts))))

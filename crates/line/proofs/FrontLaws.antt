@@ -1,20 +1,23 @@
 -- What a writer leaves in a lent buffer, for any writer: these bytes at the front, the rest kept (`Front`), and the pieces that it is put
 -- together from (`Written`).
 --
---     written_none                     no byte
+--     written_none, written_byte       no byte and one byte
 --     written-join                     a piece and then the next
 --     written-length, written-room     the buffer is as long as it was, and what is left of the room
---     written-front                    from pieces to the front
---     front-once                       no other buffer is like that
+--     written-front, front-written     from pieces to the front, and back
+--     front-more                       one byte more at the front
+--     front_length, front_bytes, front_rest, front-once
+--                                      the length, the bytes, the rest; and no other buffer is like that
 --
 -- Assumes nothing.
-use Prim.Native.Nat.{ℕ, ◌+◌, ◌≤◌}
+use Prim.Native.Nat.{ℕ, ◌+◌, ◌≤◌, ◌<◌}
 use native.Mathlib.Nat.{add-zero, zero-add}
+use native.Mathlib.Numerals.{add-one}
 use native.Mathlib.Omega.{arith}
-use mathlib.Core.Path.{◌≡◌, sym, ap, ◌∙◌}
-use mathlib.Core.List.{List, [], ◌++◌, append_assoc}
-use lib.ListN.{length, take, drop, length-append, length-take, length-drop, take-append-drop}
-use lib.Seq.{take_at, drop_at, drop-drop}
+use mathlib.Core.Path.{◌≡◌, refl, sym, ap, ◌∙◌}
+use mathlib.Core.List.{List, [], ◌∷◌, ◌++◌, append_assoc}
+use lib.ListN.{length, take, drop, set, length-append, length-take, length-drop, take-append-drop}
+use lib.Seq.{set_split, take_at, drop_at, drop-drop}
 use Rattle.line.specs.Front.{Front, Written}
 
 -- ---- pieces
@@ -25,6 +28,14 @@ written_none p a h = record {
   room = omega arith;
   ends = sym (add-zero p);
   is = sym (ap (λ (k : ℕ). take p a ++ drop k a) (add-zero p) ∙ take-append-drop p a);
+}
+
+-- One byte is written.
+pub written_byte : (p x : ℕ) (a : List ℕ) → p < length a → Written p (x ∷ []) a (set a p x) (p + 1)
+written_byte p x a h = record {
+  room = omega arith;
+  ends = refl;
+  is = set_split a p x h ∙ ap (λ (k : ℕ). take p a ++ (x ∷ drop k a)) (sym (add-one p));
 }
 
 -- The buffer is as long as it was.
@@ -80,6 +91,32 @@ written-join {p} {q} {r} {xs} {ys} {a} {b} {c} w v = record {
 -- A piece that begins at the front.
 pub written-front : {r : ℕ} {xs a b : List ℕ} → Written 0 xs a b r → Front xs a b
 written-front {r} {xs} {a} {b} w = w.is ∙ ap (λ (k : ℕ). xs ++ drop k a) (zero-add (length xs))
+
+-- What stands at the front is such a piece.
+pub front-written : (xs a b : List ℕ) → length xs ≤ length a → Front xs a b → Written 0 xs a b (length xs)
+front-written xs a b h f = record {
+  room = omega arith;
+  ends = sym (zero-add (length xs));
+  is = f ∙ ap (λ (k : ℕ). xs ++ drop k a) (sym (zero-add (length xs)));
+}
+
+-- One byte more, written behind those that are there.
+pub front-more : (xs a b : List ℕ) (x : ℕ) → length xs < length a → Front xs a b → Front (xs ++ (x ∷ [])) a (set b (length xs) x)
+front-more xs a b x h f =
+    let w = front-written xs a b (omega arith) f in
+    written-front (written-join w (written_byte (length xs) x b (omega (arith, written-length w))))
+
+-- The buffer is as long as it was.
+pub front_length : (xs a b : List ℕ) → length xs ≤ length a → Front xs a b → length b ≡ length a
+front_length xs a b h f = written-length (front-written xs a b h f)
+
+-- The bytes stand at the front,
+pub front_bytes : (xs a b : List ℕ) → Front xs a b → take (length xs) b ≡ xs
+front_bytes xs a b f = ap (take (length xs)) f ∙ take_at xs (drop (length xs) a) (length xs) refl
+
+-- and the rest is as it was.
+pub front_rest : (xs a b : List ℕ) → Front xs a b → drop (length xs) b ≡ drop (length xs) a
+front_rest xs a b f = ap (drop (length xs)) f ∙ drop_at xs (drop (length xs) a) (length xs) refl
 
 -- One buffer only is like that.
 pub front-once : (xs a b c : List ℕ) → Front xs a b → Front xs a c → b ≡ c

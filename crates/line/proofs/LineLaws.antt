@@ -3,7 +3,7 @@
 --     put_none, put-join, put-room     no byte; a piece and then the next; what is left of the room
 --     hex-room, hex-more               room for the next byte in hex, and the two digits of it
 --     decimal_digit, decimal-digits    a number below ten, and any other
---     length-small, length_more, logarithm-digits
+--     length-small, length_more, digits-small, digits_more, logarithm-digits
 --                                      how many digits a number has
 --     side-short                       the side words
 --     line-length, refusal-length, line-end
@@ -29,7 +29,7 @@ use Rattle.line.specs.Text.{digit, decimal, hex_digit, hex, DigitCount}
 use Rattle.line.specs.Line.{space, line_feed, refused_word, side_word, line_of, refusal_line, Printed}
 use Rattle.line.specs.declared.text.Text.{Text}
 use Rattle.line.proofs.FrontLaws.{written_none, written-join, written-length, written-room, written-front}
-use Rattle.line.proofs.TextLaws.{decimal-small, decimal-more, hex-length, hex-one-more}
+use Rattle.line.proofs.TextLaws.{decimal-small, decimal-more, decimal-short, hex-length, hex-one-more}
 
 -- ---- pieces
 
@@ -70,6 +70,16 @@ length-small n h = ap length (decimal-small n h)
 
 pub length_more : (n : ℕ) → 10 ≤ n → length (decimal n) ≡ length (decimal (n / 10)) + 1
 length_more n h = ap length (decimal-more n h) ∙ length-append (decimal (n / 10)) (digit (n % 10) ∷ [])
+
+-- It has so many, and 20 at most.
+pub digits-small : (n : ℕ) → n < 10 → DigitCount n 1
+digits-small n h = record { is = sym (length-small n h); most = omega arith }
+
+pub digits_more : (n r : ℕ) → 10 ≤ n → n < 2 ^ 64 → DigitCount (n / 10) r → DigitCount n (r + 1)
+digits_more n r h fits d = record {
+  is = ap (λ (k : ℕ). k + 1) d.is ∙ sym (length_more n h);
+  most = omega (arith, d.is, length_more n h, decimal-short 19 n (omega arith));
+}
 
 -- Between two powers of ten.
 length-between : (k n : ℕ) → 10 ^ k ≤ n → n < 10 * 10 ^ k → length (decimal n) ≡ k + 1
