@@ -1,12 +1,12 @@
 -- An entry's formula on a side: on side 0 it is the formula itself, on any other its dual, whose test is the negated test.
 --
 --     truth-side                one truth value
---     where-dual                the stages at which its dual holds
+--     where-zero, where-dual    the stages at which it holds
 --
 -- Assumes nothing.
 use Prim.Native.Nat.{ℕ, zero, suc, ◌-◌, ◌≤◌}
 use native.Mathlib.Omega.{arith}
-use mathlib.Core.Path.{◌≡◌, refl, sym, ap, ◌∙◌}
+use mathlib.Core.Path.{◌≡◌, refl, sym, ap, ◌∙◌, subst}
 use mathlib.Core.Bool.{Bool, true, false, not, beq}
 use mathlib.Core.List.{List}
 use lib.Bits.{bit_and}
@@ -38,6 +38,10 @@ module _ (image table : List ℕ) (e : ℕ) (env : Env) where
       turned : (b : Bool) → beq b false ≡ not b
       turned true = refl
       turned false = refl
+
+  -- Where it holds, with variable x at the stage.
+  pub where-zero : (side n x r : ℕ) → side ≡ 0 → Collects n (held_at image table e env x) r → Collects n (held_on image table side e env x) r
+  where-zero side n x r z c = subst (λ (k : ℕ). Collects n (held_on image table k e env x) r) (sym z) c
 
   -- Where its dual holds, with variable x at the stage.
   pub where-dual : (side n x : ℕ) {all held r : ℕ} → (side ≡ 0 → ⊥) → n ≤ width → all ≡ below n → Collects n (held_at image table e env x) held

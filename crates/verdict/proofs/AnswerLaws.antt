@@ -2,13 +2,14 @@
 --
 --     asked-ruled, question-ready  a question that is not refused has all that an evaluation goes by
 --     question-row           the row that is decoded for it holds its graph
+--     question-own           a question is read with its own goal and start
 --     goal-test              the test of the goal where variable 0 stands at the start
 --     yes-answer, no_answer  what the test says of the goal and of its dual
 --
 -- Assumes nothing.
 use Prim.Native.Nat.{ℕ, ◌≤◌, ◌<◌}
 use native.Mathlib.Omega.{arith}
-use mathlib.Core.Path.{◌≡◌, sym, ap, ◌∙◌, subst}
+use mathlib.Core.Path.{◌≡◌, sym, ap, ◌∙◌, subst, subst₂}
 use mathlib.Core.Bool.{Bool, true, false}
 use mathlib.Core.List.{List, [], ◌∷◌}
 use lib.Dec.{T, eqb}
@@ -106,6 +107,10 @@ module _ {image table : List ℕ} {goal start : ℕ} {q : Question} (read : Ques
       let stages : q.shape.image.stages ≡ stages_of image = ap (λ (k : Question). k.shape.image.stages) read.is in
       let few = (sizes image (of_image image table (of-setup image table goal start read.clear))).stages in
       decoded-row stages (omega arith) long d
+
+  -- And it is read with these.
+  pub question-own : QuestionRead image table q.goal q.start q
+  question-own = subst₂ (λ (g s : ℕ). QuestionRead image table g s q) (sym own-goal) (sym own-start) read
 
   pub own-test : {b : Bool} → b ≡ goal_test image table q.goal q.start → {c : Bool} → b ≡ c → goal_test image table goal start ≡ c
   own-test e f = ap (λ (g : ℕ). goal_test image table g start) (sym own-goal) ∙ ap (goal_test image table q.goal) (sym own-start) ∙ sym e ∙ f

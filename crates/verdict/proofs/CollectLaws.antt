@@ -2,11 +2,12 @@
 -- stage. A law takes what the contract of an operation says of the number that it gives.
 --
 --     collects-as, collects-by                   a test that is the same below n; a set that the crate `modal` worked out
---     collects-all, collects-none                every stage, and none
+--     collects-all, collects-none, computes_none every stage, and none
 --     collects-both, collects-either, collects-lacks, collects-clip
 --                                                in both sets, in either, in none, and what a set has below n
---     settled-all                                the first operand settles "or"
---     collects-take, collects-skip               one stage more, which passes the test or does not
+--     settled-none, settled-all                  the first operand settles "and", and "or"
+--     collects-start, collects-take, collects-skip, collects-end
+--                                                no stage yet; one more, which passes the test or does not; and all
 --     collects-once                              one set collects a test
 --
 -- Assumes nothing.
@@ -23,7 +24,7 @@ use Rattle.sets.specs.declared.Set.{Set}
 use Rattle.model.specs.Decides.{Decides}
 use Rattle.model.specs.Graph.{Graph}
 use Rattle.logic.specs.Test.{Stages}
-use Rattle.sets.specs.Member.{bit, Has, Within}
+use Rattle.sets.specs.Member.{bit, Has, Within, Empty}
 use Rattle.sets.specs.Number.{single, width}
 use Rattle.sets.proofs.LawsMember.{same?, has-test, has-and, has-with, within-antisym}
 use Rattle.modal.specs.Row.{member, Row, Computes}
@@ -49,6 +50,10 @@ collects-none {n} {r} e = record { inside = λ k h. absurd (lacks k h); right = 
   where
     lacks : (k : ℕ) → Has r k → ⊥
     lacks k h = subst T (member-none e k) ((has-test r k).1 h)
+
+-- No stage is worked out for a test that none passes.
+pub computes_none : {next : List Set} {n r : ℕ} → r ≡ 0 → Computes next n (λ G s. false) r
+computes_none {n = n} e = let c = collects-none {n = n} e in record { inside = c.inside; right = λ G R s h. c.right s h }
 
 module _ {n : ℕ} {p q : Stages} (a b : ℕ) {r : ℕ} where
   -- The stages of both sets, and of either.
@@ -84,6 +89,13 @@ collects-clip {n} {r} {all} a w f e = record {
 
 -- ---- "and" and "or" with the first operand alone
 
+-- "And" is settled where the first operand holds at no stage.
+pub settled-none : (r : Bool) (n a : ℕ) {first : Bool} → first ≡ true → Decides r (Empty a) → Settled r n first a
+settled-none true n a first-is none = λ s h b.
+    let lacks : member a s ≡ false = ne_eqb (bit a s) 1 (none s) in
+    ap₂ (λ (f m : Bool). joined f m b) first-is lacks ∙ sym lacks
+settled-none false n a first-is some = tt
+
 -- "Or" is settled where it holds at every stage below n.
 pub settled-all : (r : Bool) (n a : ℕ) {all : ℕ} {first : Bool} → first ≡ false → n ≤ width → all ≡ below n → Decides r (Within all a) → Settled r n first a
 settled-all true n a {all} first-is w all-is within = λ s h b.
@@ -92,6 +104,10 @@ settled-all true n a {all} first-is w all-is within = λ s h b.
 settled-all false n a first-is w all-is some = tt
 
 -- ---- a set filled stage by stage
+
+-- Before the first stage there is none.
+pub collects-start : {r : ℕ} (op : Stages) → r ≡ 0 → Collects 0 op r
+collects-start op e = record { inside = (collects-none e).inside; right = λ s h. absurd (omega arith) }
 
 module _ {s r r' : ℕ} {op : Stages} (c : Collects s op r) where
   -- One stage more, which passes the test or does not.
@@ -118,6 +134,12 @@ module _ {s r r' : ℕ} {op : Stages} (c : Collects s op r) where
       (λ k h. inl (subst (λ (x : ℕ). Has x k) e h))
       (λ k h. subst (λ (x : ℕ). Has x k) (sym e) h)
       (ne_eqb (bit r' s) 1 (λ h. let i = c.inside s (subst (λ (x : ℕ). Has x s) e h) in omega arith) ∙ sym t)
+
+-- After the last stage the set is whole.
+pub collects-end : {n s r : ℕ} {op : Stages} → s ≤ n → n ≤ s → Collects s op r → Collects n op r
+collects-end {n} {s} {r} {op} l g c =
+    let e : s ≡ n = omega arith in
+    subst (λ (k : ℕ). Collects k op r) e c
 
 -- ---- one set
 

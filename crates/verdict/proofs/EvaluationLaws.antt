@@ -1,7 +1,7 @@
 -- The evaluation of an entry: what each arm of the code gives is what the test of the entry's formula says.
 --
---     entry-ruled, ready-lower, ready-rule
---                                                             what an evaluation goes by at a lower entry, and by which rules
+--     entry-ruled, ready-lower, ready-bound, ready-rule
+--                                                             what an evaluation goes by at a lower entry and under a binding, and by which rules
 --     junction-first, junction-second, unary-operand, binary-first, binary-second
 --                                                             so that it can go on to an operand
 --     constant-arm, literal-arm, junction-arm, settled-arm, modal-arm
@@ -62,6 +62,11 @@ term-ruled S.Binary image e r some rule = rule.t
 -- An entry keeps its rules.
 pub entry-ruled : (setup : Setup) {e : ℕ} → e < entries_of setup.table.now → Ruled setup.image.now e (record_at setup.table.now e)
 entry-ruled setup {e} = all-ruled setup.image.now setup.table.now setup.ruled e
+
+-- What an evaluation goes by, where a variable stands at another stage.
+pub ready-bound : {table : List ℕ} {n e : ℕ} {env : Env} → Ready table n e env → {x s : ℕ} {here : Env} → x < 4 → s < n → Bound env x s here
+    → Ready table n e here
+ready-bound {n = n} ready {x} h l b = record { entry = ready.entry; stand = subst (Stand n) (sym (b.here h)) (bind-stands ready.stand x l) }
 
 module _ (setup : Setup) {e : ℕ} {env : Env} (ready : Ready setup.table.now setup.stages e env) where
   abbrev image : List ℕ

@@ -2,19 +2,24 @@
 --
 --     inner-free, inner-same     where the operands do not name x, a binding of x changes nothing
 --     modal-agrees               operands that agree on the stages give modalities that agree there
+--     free-under                 the test for a variable that is free under a binding
 --
 -- Assumes nothing.
-use Prim.Native.Nat.{ℕ}
+use Prim.Native.Nat.{ℕ, ◌<◌}
+use native.Mathlib.Omega.{arith}
 use mathlib.Core.Path.{◌≡◌, refl, sym, ap}
-use mathlib.Core.Bool.{Bool}
+use mathlib.Core.Bool.{Bool, true, false}
 use mathlib.Core.Logic.{⊎_elim}
 use borrow.Author.Tests.{ne_eqb}
+use Rattle.model.specs.Decides.{Decides}
 use Rattle.model.specs.Graph.{Graph}
-use Rattle.model.specs.Formula.{Formula, truth, falsity, is, is_not, and, or, AX, EX, AF, EG, AR, EU, Env, pick, bind, Free}
+use Rattle.model.specs.Formula.{Formula, truth, falsity, is, is_not, and, or, AX, EX, AF, EG, AR, EU, Env, pick, bind, Under, Free}
 use Rattle.logic.specs.Test.{Stages, test}
 use Rattle.logic.proofs.Variables.{test-same}
+use Rattle.sets.specs.Member.{Has}
 use Rattle.modal.proofs.LawsMember.{Agree}
 use Rattle.modal.proofs.LawsOnce.{ax-agrees, ex-agrees, af-agrees, eg-agrees, ar-agrees, eu-agrees}
+use Rattle.format.specs.Reading.{Variables}
 use Rattle.format.specs.declared.record.Kind.{Kind}
 use Rattle.format.specs.declared.record.Kind.TheVariants as K
 use Rattle.verdict.specs.Kinds.{modal}
@@ -59,3 +64,8 @@ modal-agrees G K.AF p q = af-agrees G p
 modal-agrees G K.EG p q = eg-agrees G p
 modal-agrees G K.AR p q = ar-agrees G q p
 modal-agrees G K.EU p q = eu-agrees G q p
+
+-- A test of the set of a formula's free variables says whether one is free under a binding of another.
+pub free-under : (x y s : ℕ) (f : Formula) (b : Bool) → x < 4 → (x ≡ y → ⊥) → Variables f s → Decides b (Has s x) → Decides b (Under x y (Free x f))
+free-under x y s f true h n v d = (n, (v x (omega arith)).0 d)
+free-under x y s f false h n v d = λ u. d ((v x (omega arith)).1 u.1)

@@ -1,6 +1,6 @@
 -- One truth value of an entry: what each arm of the code gives is what the test of the entry's formula says.
 --
---     constant-truth, literal-truth, settled-truth, second-truth, modal-truth, none-truth
+--     constant-truth, literal-truth, settled-truth, second-truth, modal-truth
 --
 -- Assumes nothing.
 use Prim.Native.Nat.{ℕ}
