@@ -1,17 +1,18 @@
 -- What a guide tells in the words of an entry's fields, and one step of each walk in the words of the contracts.
 --
+--     noted-new, noted_more              the lengths of AF that are noted
+--     known_past, known-fits             a length of AF that is known says how far its steps go
+--     one-ends, two_ends                 no fuel is left
 --     told-true, told-false, choice-of, collects-of, leads-of, nearest-of
 --                                        what the guide says of operands that are read of the entry, said of those of its record
 --     af-now-steps, af-later-steps       AF at a stage
---     noted-new, noted_more              the lengths of AF that are noted
 --     eg-begins, eg-merges, eg-goes      EG in a loop
---     one-ends, two_ends                 no fuel is left
 --     ar-begins, ar-merges, ar-releases, ar-goes
 --                                        AR at a stage
 --     eu-begins, eu-stops, eu-goes       EU in a loop
-use Prim.Native.Nat.{ℕ, suc, ◌-◌, ◌≤◌, ◌<◌}
+use Prim.Native.Nat.{ℕ, suc, ◌+◌, ◌-◌, ◌≤◌, ◌<◌}
 use native.Mathlib.Omega.{arith}
-use mathlib.Core.Path.{◌≡◌, sym, ap, ap₂, subst, ◌∙◌}
+use mathlib.Core.Path.{◌≡◌, refl, sym, ap, ap₂, subst, ◌∙◌}
 use mathlib.Core.Bool.{Bool, true, false}
 use mathlib.Core.List.{List, [], ◌∷◌, ◌++◌, append_assoc}
 use lib.Bits.{bit_or}
@@ -62,6 +63,54 @@ pub record EuGoing (image table : List ℕ) (side e : ℕ) (env : Slots) (w : Bo
   pub going : Going w (entry_steps image table side e (env_of env)) (two_steps image table side Kind.EU e (env_of env) left walk s) place before out here
   pub below : s < stages_of image
   pub holds : T (eu (graph_of image) (a_of image table side e (env_of env)).holds (b_of image table side e (env_of env)).holds s)
+
+-- ---- whatever is lent
+
+-- No length is known yet.
+abbrev none-known : List ℕ
+none-known = replicate width 0
+
+pub noted-new : (image table : List ℕ) (side e : ℕ) (env : Slots) → Noted image table side e (env_of env) none-known
+noted-new image table side e env = record { each = λ s h. absurd (omega (arith, none s, h)) }
+  where
+    none : (s : ℕ) → get_or none-known s 0 ≡ 0
+    none s = ⊎_elim (get_or-replicate width s 0 0) (λ h. get_or-eq_default none-known 0 {n = s} (omega (arith, length-replicate {A = ℕ} width 0, h))) (side? s width)
+
+-- A length that the buffer has room for is noted, where there is room for it.
+pub noted_more : (image table : List ℕ) (side e : ℕ) (env : Slots) {lens : List ℕ} {w : Bool} (s : ℕ) {p q : ℕ} {l k : List ℕ}
+    → Noted image table side e (env_of env) lens → Wrote w (af_steps image table side e (env_of env) s) p l k q → q ≤ length l
+    → Noted image table side e (env_of env) (set lens s (q - p))
+noted_more image table side e env {lens} s {p} {q} n wrote fits =
+    ⊎_elim (λ h. record {
+      each = λ t i. ⊎_elim
+          (λ (d : t ≡ s). subst (λ (u : ℕ). get_or (set lens s (q - p)) u 0 ≡ length (af_steps image table side e (env_of env) u)) (sym d)
+          (get_or-set_same lens s (q - p) 0 h ∙ omega (arith, wrote.goes)))
+          (λ d. get_or-set_other lens s t (q - p) 0 d ∙ n.each t (subst (λ (z : ℕ). 0 < z) (get_or-set_other lens s t (q - p) 0 d) i)) (same? t s);
+    }) (λ h. rw (set_out lens s (q - p) h) n) (side? s (length lens))
+
+module _ {image table : List ℕ} {side e : ℕ} {env : Slots} {stop s left : ℕ} {lens : List ℕ} (at : AfAt image table side e env stop s left lens) where
+  -- The length that is known says how far the steps go, where they are only counted: past the end, or not.
+  module _ {w : Bool} {known : ℕ} (p : ℕ) (l : List ℕ) (counts : w ≡ false) (some : 0 < known) (is_Known : known
+      ≡ get_or lens s 0) (in_Buffer : p ≤ length l) where
+    long : known ≡ length (af_steps image table side e (env_of env) s)
+    long = is_Known ∙ at.noted.each s (omega (arith, is_Known))
+
+    pub known_past : length l - p < known → Wrote w (af_steps image table side e (env_of env) s) p l l (length l + 1)
+    known_past h = rw counts (record { goes = omega (arith, long); leaves = refl })
+
+    pub known-fits : known ≤ length l - p → Wrote w (af_steps image table side e (env_of env) s) p l l (p + known)
+    known-fits h = rw counts (record { goes = omega (arith, long); leaves = refl })
+
+-- Without fuel nothing remains.
+pub one-ends : (image table : List ℕ) (side e : ℕ) (env : Slots) (k : Kind) {left : ℕ} (w : Walk) (s : ℕ) → left ≡ 0
+    → one_steps image table side k e (env_of env) left w s ≡ []
+unfolding one_steps
+one-ends image table side e env k w s z = ap (λ (m : ℕ). one_steps image table side k e (env_of env) m w s) z
+
+pub two_ends : (image table : List ℕ) (side e : ℕ) (env : Slots) (k : Kind) {left : ℕ} (w : Walk) (s : ℕ) → left ≡ 0
+    → two_steps image table side k e (env_of env) left w s ≡ []
+unfolding two_steps
+two_ends image table side e env k w s z = ap (λ (m : ℕ). two_steps image table side k e (env_of env) m w s) z
 
 module _ (run : Run) where
   abbrev image : List ℕ
@@ -132,28 +181,6 @@ module _ (run : Run) where
     af-later-steps f =
         af-later (run-readable run) (a_of image table side e (env_of env)) (no_entry (graph_of image)) left s
         (omega (arith, at.fuel)) at.lasts f
-
-  -- No length is known yet.
-  abbrev none-known : List ℕ
-  none-known = replicate width 0
-
-  pub noted-new : (e : ℕ) (env : Slots) → Noted image table side e (env_of env) none-known
-  noted-new e env = record { each = λ s h. absurd (omega (arith, none s, h)) }
-    where
-      none : (s : ℕ) → get_or none-known s 0 ≡ 0
-      none s = ⊎_elim (get_or-replicate width s 0 0) (λ h. get_or-eq_default none-known 0 {n = s} (omega (arith, length-replicate {A = ℕ} width 0, h))) (side? s width)
-
-  -- A length that the buffer has room for is noted, where there is room for it.
-  pub noted_more : (e : ℕ) (env : Slots) {lens : List ℕ} {w : Bool} (s : ℕ) {p q : ℕ} {l k : List ℕ}
-      → Noted image table side e (env_of env) lens → Wrote w (af_steps image table side e (env_of env) s) p l k q → q ≤ length l
-      → Noted image table side e (env_of env) (set lens s (q - p))
-  noted_more e env {lens} s {p} {q} n wrote fits =
-      ⊎_elim (λ h. record {
-        each = λ t i. ⊎_elim
-            (λ (d : t ≡ s). subst (λ (u : ℕ). get_or (set lens s (q - p)) u 0 ≡ length (af_steps image table side e (env_of env) u)) (sym d)
-            (get_or-set_same lens s (q - p) 0 h ∙ omega (arith, wrote.goes)))
-            (λ d. get_or-set_other lens s t (q - p) 0 d ∙ n.each t (subst (λ (z : ℕ). 0 < z) (get_or-set_other lens s t (q - p) 0 d) i)) (same? t s);
-      }) (λ h. rw (set_out lens s (q - p) h) n) (side? s (length lens))
 
   -- ---- EG
 
@@ -235,17 +262,6 @@ module _ (run : Run) where
         append_assoc ((row (Rule.EuLater c)).code ∷ []) ((c ∷ []) ++ (a_of image table side e (env_of env)).steps s) _
         ∙ eu-later (graph_of image) (a_of image table side e (env_of env)) (b_of image table side e (env_of env)) rest w s c f c-is
         ∙ ap (λ (m : ℕ). two_steps image table side Kind.EU e (env_of env) m w s) (sym more)
-
-  -- Without fuel nothing remains.
-  pub one-ends : (e : ℕ) (env : Slots) (k : Kind) {left : ℕ} (w : Walk) (s : ℕ) → left ≡ 0
-      → one_steps image table side k e (env_of env) left w s ≡ []
-  unfolding one_steps
-  one-ends e env k w s z = ap (λ (m : ℕ). one_steps image table side k e (env_of env) m w s) z
-
-  pub two_ends : (e : ℕ) (env : Slots) (k : Kind) {left : ℕ} (w : Walk) (s : ℕ) → left ≡ 0
-      → two_steps image table side k e (env_of env) left w s ≡ []
-  unfolding two_steps
-  two_ends e env k w s z = ap (λ (m : ℕ). two_steps image table side k e (env_of env) m w s) z
 
   module _ {e : ℕ} {env : Slots} where
     -- AR and EU at the start.

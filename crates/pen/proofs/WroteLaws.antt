@@ -2,6 +2,8 @@
 --
 --     wrote-length, wrote-place        the buffer is as long as it was, and no place is further than one past its end
 --     wrote-past, wrote_none           any bytes from past the end on; no byte
+--     wrote-full, wrote-stored, wrote-counted
+--                                      one byte
 --     wrote-both                       a run and then the next
 --     wrote-same                       the same run by another name
 use Prim.Native.Nat.{ℕ, suc, ◌+◌, ◌≤◌, ◌<◌}
@@ -52,6 +54,17 @@ wrote_none w p l h = record { goes = omega arith; leaves = go w }
     go : (w : Bool) → l ≡ laid w l p []
     go true = refl
     go false = refl
+
+-- One byte: there is no room for it, it is stored, or it is counted.
+pub wrote-full : (w : Bool) (v p : ℕ) (l : List ℕ) → length l ≤ p → Wrote w (v ∷ []) p l l (length l + 1)
+wrote-full w v p l h = record { goes = omega arith; leaves = laid-past w l p (v ∷ []) h }
+
+module _ {w : Bool} {v p : ℕ} {l k : List ℕ} (room : p < length l) where
+  pub wrote-stored : w ≡ true → k ≡ set l p v → Wrote w (v ∷ []) p l k (p + 1)
+  wrote-stored e f = record { goes = omega arith; leaves = f ∙ ap (λ (b : Bool). laid b l p (v ∷ [])) (sym e) }
+
+  pub wrote-counted : w ≡ false → k ≡ l → Wrote w (v ∷ []) p l k (p + 1)
+  wrote-counted e f = record { goes = omega arith; leaves = f ∙ ap (λ (b : Bool). laid b l p (v ∷ [])) (sym e) }
 
 -- A run and then the next.
 module _ {w : Bool} {vs ws : List ℕ} {p q r : ℕ} {l k j : List ℕ} (first : Wrote w vs p l k q) (second : Wrote w ws q k j r) where

@@ -4,18 +4,19 @@
 --     question-sets, question-most, question-prepared, question-holding
 --                                what a run asks: the setup, and that the side holds
 --     no_room, with-room         the buffer is too short; the certificate was written
---     question-refused           a refusal of the question's reader
+--     question-refused, question-answered
+--                                a refusal of the question's reader; a question is answered with its own goal and start
 use Prim.Native.Nat.{ℕ, ◌+◌, ◌≤◌, ◌<◌}
 use native.Mathlib.Omega.{arith}
 use native.Mathlib.Nat.{zero-add}
-use mathlib.Core.Path.{◌≡◌, refl, sym, ap, ap₂, ◌∙◌, subst}
+use mathlib.Core.Path.{◌≡◌, refl, sym, ap, ap₂, ◌∙◌, subst, subst₂}
 use mathlib.Core.Bool.{Bool, true, false, not}
 use mathlib.Core.List.{List, ◌++◌}
 use mathlib.Core.Logic.{inl}
 use lib.Dec.{T}
 use lib.ListN.{length, drop}
 use lib.Seq.{sets-eq}
-use Rattle.std.specs.Prelude.{Ok, Err}
+use Rattle.std.specs.Prelude.{Result, Ok, Err}
 use Rattle.sets.specs.declared.Set.{Set}
 use Rattle.hand.specs.declared.setup.Entry.{Entry}
 use Rattle.model.specs.Formula.{Env}
@@ -43,11 +44,12 @@ use Rattle.hand.specs.declared.env.Env.{Env as Slots}
 use Rattle.hand.proofs.HandLaws.{successors-in}
 use Rattle.hand.proofs.EnvironmentLaws.{start-env}
 use Rattle.verdict.specs.Evaluation.{truth_of}
-use Rattle.verdict.proofs.AnswerLaws.{start_env, question-ready, question-row}
+use Rattle.verdict.proofs.AnswerLaws.{start_env, question-ready, question-row, own-goal, own-start}
 use Rattle.guide.specs.Sides.{truth_on}
 use Rattle.pen.specs.Wrote.{Wrote}
 use Rattle.pen.specs.Steps.{entry_steps, whole_bytes, Holding}
 use Rattle.writer.specs.Write.{side_by, side_for, certificate_on, certificate, room_conditions, written_as, WriteAnswer}
+use Rattle.writer.specs.declared.answer.Written.{Written}
 
 module _ (image table : List ℕ) (goal start : ℕ) where
   -- What a run goes through, where the variables stand as the code has them at the start.
@@ -157,3 +159,9 @@ question-refused image table goal start buffer {k} g = record {
   given = given-first (question_conditions image table goal start) (room_conditions image table goal start buffer) k g;
   kept = refl;
 }
+
+-- A question is answered with its own goal and start.
+pub question-answered : {image table : List ℕ} {goal start : ℕ} {q : Question} → QuestionRead image table goal start q → (before after : List ℕ)
+    (r : Result Written Refusal) → WriteAnswer image table q.goal q.start before after r → WriteAnswer image table goal start before after r
+question-answered {image} {table} {goal} {start} {q} read before after r w =
+    subst₂ (λ (g s : ℕ). WriteAnswer image table g s before after r) (own-goal read) (own-start read) w

@@ -62,7 +62,7 @@ af_from-af-requires t c =
         lasts = lasts-start (run-readable run) (omega (arith, run-stages run)) (subst (λ (s : ℕ). T (af_test (graph_of run.setup.image.now)
             (run-a run e env).holds s)) (sym s-is) (af-holds run h));
         fuel = omega (arith, run-stages run);
-        noted = noted-new run e env;
+        noted = noted-new run.setup.image.now run.setup.table.now run.side e env;
       },
     )
 
@@ -82,7 +82,7 @@ pub af-returns-then-sheet-2-clause-noted : goal.af-returns-then-sheet-2-clause-n
 af-returns-then-sheet-2-clause-noted t c =
     let run = c.args.self.now in
     let step = c.af_step.ensures in
-    noted_more run c.args.course.now.entry c.args.course.now.env _ step.noted step.wrote (omega (arith, c.if-sheet-2.true, wrote-length step.wrote))
+    noted_more run.setup.image.now run.setup.table.now run.side c.args.course.now.entry c.args.course.now.env _ step.noted step.wrote (omega (arith, c.if-sheet-2.true, wrote-length step.wrote))
 
 pub af_step-formula-requires : goal.af_step-formula-requires
 af_step-formula-requires t c =
@@ -206,7 +206,7 @@ ar-returns-then-sheet-clause-wrote t c = wrote-past _ _ _ _ c.if-sheet.true
 pub ar-returns-then-left-eq0-clause-wrote : goal.ar-returns-then-left-eq0-clause-wrote
 ar-returns-then-left-eq0-clause-wrote t c =
     let run = c.args.self.now in
-    wrote-same (sym (two_ends run c.args.course.now.entry c.args.course.now.env Kind.AR _ _ c.if-left-eq0.true)) (wrote_none _ _ _
+    wrote-same (sym (two_ends run.setup.image.now run.setup.table.now run.side c.args.course.now.entry c.args.course.now.env Kind.AR _ _ c.if-left-eq0.true)) (wrote_none _ _ _
     (omega (arith, c.if-sheet.false)))
 
 pub ar-returns-then-has-clause-wrote : goal.ar-returns-then-has-clause-wrote
@@ -415,7 +415,7 @@ eg-loop-preserved t c =
 pub eg-returns-clause-wrote : goal.eg-returns-clause-wrote
 eg-returns-clause-wrote t c =
     let run = c.args.self.now in
-    going_done c.loop.invariant.0.going (one-ends run c.args.e c.args.env Kind.EG _ _ (omega
+    going_done c.loop.invariant.0.going (one-ends run.setup.image.now run.setup.table.now run.side c.args.e c.args.env Kind.EG _ _ (omega
     (arith, c.loop-test.false)))
 
 pub eu-eu-now-requires : goal.eu-eu-now-requires
@@ -518,7 +518,7 @@ eu-loop-preserved t c =
 pub eu-returns-clause-wrote : goal.eu-returns-clause-wrote
 eu-returns-clause-wrote t c =
     let run = c.args.self.now in
-    going_done c.loop.invariant.0.going (two_ends run c.args.e c.args.env Kind.EU _ _ (omega
+    going_done c.loop.invariant.0.going (two_ends run.setup.image.now run.setup.table.now run.side c.args.e c.args.env Kind.EU _ _ (omega
     (arith, c.loop-test.false)))
 
 -- ---- `formula` and `or`: by the kind, and left or right
