@@ -4,7 +4,7 @@
 --     holds-allowed, not-allowed             the rules for an atom and for its negation
 --     and-left, and-right                    of two conditions both hold
 --     off-walk                               a stage that is to be off the walk is not on it
-use Prim.Native.Nat.{ℕ, ◌/◌}
+use Prim.Native.Nat.{ℕ, zero, suc, ◌/◌, ◌<◌}
 use native.Mathlib.Omega.{arith}
 use mathlib.Core.Path.{◌≡◌, refl, sym, ap, subst, ◌∙◌}
 use mathlib.Core.Bool.{Bool, true, false, not, ◌&&◌}
@@ -27,65 +27,43 @@ use Rattle.checker.proofs.ArmLaws.{kind-is, entry-is}
 
 -- ---- kinds with one rule
 
--- The one rule for "true".
+-- The one rule for "true", for an atom and for its negation, by the number of its kind; for "false", 1, which has none, that for "true" stands.
+abbrev only : ℕ → Rule
+only zero = Rule.True
+only (suc zero) = Rule.True
+only (suc (suc zero)) = Rule.Holds
+only (suc (suc (suc k))) = Rule.HoldsNot
+
+only-rule : (q : Rule) → kind_for q < 4 → q ≡ only (kind_for q)
+only-rule Rule.True h = refl
+only-rule Rule.Holds h = refl
+only-rule Rule.HoldsNot h = refl
+only-rule Rule.And h = absurd (omega arith)
+only-rule Rule.OrLeft h = absurd (omega arith)
+only-rule Rule.OrRight h = absurd (omega arith)
+only-rule Rule.Ax h = absurd (omega arith)
+only-rule (Rule.Ex c) h = absurd (omega arith)
+only-rule Rule.AfNow h = absurd (omega arith)
+only-rule Rule.AfLater h = absurd (omega arith)
+only-rule (Rule.EgOn c) h = absurd (omega arith)
+only-rule Rule.EgMerge h = absurd (omega arith)
+only-rule Rule.ArRelease h = absurd (omega arith)
+only-rule Rule.ArOn h = absurd (omega arith)
+only-rule Rule.ArMerge h = absurd (omega arith)
+only-rule Rule.EuNow h = absurd (omega arith)
+only-rule (Rule.EuLater c) h = absurd (omega arith)
+
+-- For "true",
 pub for-true : (q : Rule) → kind_for q ≡ 0 → q ≡ Rule.True
-for-true Rule.True e = refl
-for-true Rule.Holds e = absurd (omega arith)
-for-true Rule.HoldsNot e = absurd (omega arith)
-for-true Rule.And e = absurd (omega arith)
-for-true Rule.OrLeft e = absurd (omega arith)
-for-true Rule.OrRight e = absurd (omega arith)
-for-true Rule.Ax e = absurd (omega arith)
-for-true (Rule.Ex c) e = absurd (omega arith)
-for-true Rule.AfNow e = absurd (omega arith)
-for-true Rule.AfLater e = absurd (omega arith)
-for-true (Rule.EgOn c) e = absurd (omega arith)
-for-true Rule.EgMerge e = absurd (omega arith)
-for-true Rule.ArRelease e = absurd (omega arith)
-for-true Rule.ArOn e = absurd (omega arith)
-for-true Rule.ArMerge e = absurd (omega arith)
-for-true Rule.EuNow e = absurd (omega arith)
-for-true (Rule.EuLater c) e = absurd (omega arith)
+for-true q e = only-rule q (omega (arith, e)) ∙ ap only e
 
--- For an atom.
+-- for an atom,
 pub for-holds : (q : Rule) → kind_for q ≡ 2 → q ≡ Rule.Holds
-for-holds Rule.True e = absurd (omega arith)
-for-holds Rule.Holds e = refl
-for-holds Rule.HoldsNot e = absurd (omega arith)
-for-holds Rule.And e = absurd (omega arith)
-for-holds Rule.OrLeft e = absurd (omega arith)
-for-holds Rule.OrRight e = absurd (omega arith)
-for-holds Rule.Ax e = absurd (omega arith)
-for-holds (Rule.Ex c) e = absurd (omega arith)
-for-holds Rule.AfNow e = absurd (omega arith)
-for-holds Rule.AfLater e = absurd (omega arith)
-for-holds (Rule.EgOn c) e = absurd (omega arith)
-for-holds Rule.EgMerge e = absurd (omega arith)
-for-holds Rule.ArRelease e = absurd (omega arith)
-for-holds Rule.ArOn e = absurd (omega arith)
-for-holds Rule.ArMerge e = absurd (omega arith)
-for-holds Rule.EuNow e = absurd (omega arith)
-for-holds (Rule.EuLater c) e = absurd (omega arith)
+for-holds q e = only-rule q (omega (arith, e)) ∙ ap only e
 
--- For its negation.
+-- and for its negation.
 pub for-holds-not : (q : Rule) → kind_for q ≡ 3 → q ≡ Rule.HoldsNot
-for-holds-not Rule.True e = absurd (omega arith)
-for-holds-not Rule.Holds e = absurd (omega arith)
-for-holds-not Rule.HoldsNot e = refl
-for-holds-not Rule.And e = absurd (omega arith)
-for-holds-not Rule.OrLeft e = absurd (omega arith)
-for-holds-not Rule.OrRight e = absurd (omega arith)
-for-holds-not Rule.Ax e = absurd (omega arith)
-for-holds-not (Rule.Ex c) e = absurd (omega arith)
-for-holds-not Rule.AfNow e = absurd (omega arith)
-for-holds-not Rule.AfLater e = absurd (omega arith)
-for-holds-not (Rule.EgOn c) e = absurd (omega arith)
-for-holds-not Rule.EgMerge e = absurd (omega arith)
-for-holds-not Rule.ArRelease e = absurd (omega arith)
-for-holds-not Rule.ArOn e = absurd (omega arith)
-for-holds-not Rule.ArMerge e = absurd (omega arith)
-for-holds-not Rule.EuNow e = absurd (omega arith)
-for-holds-not (Rule.EuLater c) e = absurd (omega arith)
+for-holds-not q e = only-rule q (omega (arith, e)) ∙ ap only e
 
 -- ---- atoms
 
